@@ -1,0 +1,14 @@
+//! The planner's types, and the definitions that every contract above cites.
+#![tactic(auto)]
+
+mod event;
+mod expr;
+mod list;
+mod plan;
+mod problem;
+
+pub use event::{Cause, Event};
+pub use expr::Expr;
+pub use list::{List, Name, NoMemory};
+pub use plan::{Item, Limits, Mark, Plan, Timed};
+pub use problem::{Action, Cond, Effect, How, Kind, Op, Problem, TimedItem};
