@@ -3,9 +3,11 @@
 #![tactic(auto)]
 
 mod clock;
+mod files;
 mod gate;
 mod sink;
 
 pub use clock::{Clock, ListClock};
+pub use files::{Files, LoadFault, MemoryFiles, SaveFault};
 pub use gate::{Gate, OpenGate, Point};
 pub use sink::{MemorySink, SendFault, Sink};
