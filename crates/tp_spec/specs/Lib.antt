@@ -10,3 +10,4 @@ pub mod Schedules
 pub mod Machine
 pub mod Following
 pub mod Texts
+pub mod Plain
