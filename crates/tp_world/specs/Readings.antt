@@ -11,3 +11,11 @@ reading_at readings k = slice_index readings (min k (min (length readings) (2 ^ 
 abbrev pub AreNext : List ℕ → ℕ → List ℕ → Type 0
 AreNext readings count [] = Unit {0}
 AreNext readings count (r ∷ rs) = (r ≡ reading_at readings count) × AreNext readings (one_more count) rs
+
+-- a clock that reads a list: its readings, how often it was read, the last reading, and the number of
+-- ticks of a unit of time
+pub record ClockState : Type 0 where
+  pub readings : List ℕ
+  pub count : ℕ
+  pub last : ℕ
+  pub rate : ℕ
