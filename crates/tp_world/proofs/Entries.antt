@@ -1,5 +1,5 @@
 -- Files by name, after a write over one and after one more.
-use Rattle.std.proofs.Common.{◌≡◌, ◌≢◌, ℕ, ◌<◌, ◌≤◌, Bool, true, false, cond, List, [], ◌∷◌, ◌++◌, length, get_or, Option, Some, None, refl, sym, ap, ◌∙◌, subst, arith, position, find, map, nat_lt, Result, Ok, Err, OnOk, not, ◌+◌, string_bytes}
+use Rattle.std.proofs.Common.{◌≡◌, ◌≢◌, ℕ, Bool, true, false, cond, List, [], ◌∷◌, ◌++◌, length, get_or, Option, Some, None, refl, sym, ap, ◌∙◌, subst, arith, position, find, map, nat_lt, Result, Ok, Err, OnOk, not, ◌+◌, string_bytes}
 use Rattle.std.specs.Prelude.{Vec, String}
 use Rattle.std.specs.Str.{bytes_eq}
 use Rattle.std.specs.List.{position_or_len, prefix_len, slice_get}

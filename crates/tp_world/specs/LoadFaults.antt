@@ -1,5 +1,5 @@
 -- How a load in memory counts.
-use Rattle.std.specs.Prelude.{ℕ, List, Vec, Result, Ok, Err}
+use Rattle.std.specs.Prelude.{ℕ, Result, Ok, Err}
 use Rattle.tp_world.specs.declared.files.LoadFault.{LoadFault}
 use Rattle.tp_world.specs.declared.files.LoadFault.TheVariants.{Failed, TooLong, NoMemory}
 use Rattle.tp_world.specs.Counts.{one_more}

@@ -2,11 +2,13 @@
 //! contracts; fakes of them in memory; adapters of the real thing.
 #![tactic(auto)]
 
+mod adapters;
 mod clock;
 mod files;
 mod gate;
 mod sink;
 
+pub use adapters::{DiskFiles, ElapsedClock, PauseGate, StdSink};
 pub use clock::{Clock, ListClock};
 pub use files::{Files, LoadFault, MemoryFiles, SaveFault};
 pub use gate::{Gate, OpenGate, Point};
