@@ -7,6 +7,8 @@ mod clock;
 mod files;
 mod gate;
 mod sink;
+#[cfg(test)]
+mod tests;
 
 pub use adapters::{DiskFiles, ElapsedClock, PauseGate, StdSink};
 pub use clock::{Clock, ListClock};

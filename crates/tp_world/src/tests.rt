@@ -1,0 +1,177 @@
+//! The traits used through their bounds, the fakes through the traits, and the adapters on the system.
+ghost use Rattle.std.specs.Prelude.{◌≡◌, ℕ, List, ◌++◌, ◌<◌, Some, IfSome, IfOk, OnOk, length};
+ghost use Rattle.std.specs.List.{slice_get};
+ghost use Rattle.std.specs.Io.KnownBytes.{Appends};
+ghost use Rattle.tp_world.specs.Counts.{Rose, count_after};
+ghost use Rattle.tp_world.specs.Readings.{reading_at, AreNext};
+ghost use Rattle.tp_world.specs.Sinks.{AppendsFront};
+
+use crate::adapters::{DiskFiles, ElapsedClock, PauseGate, StdSink};
+use crate::clock::{Clock, ListClock};
+use crate::files::{Files, LoadFault, MemoryFiles, SaveFault};
+use crate::gate::{Gate, OpenGate, Point};
+use crate::sink::{MemorySink, SendFault, Sink};
+use std::alloc::Global;
+use std::fs;
+use std::test::Fail;
+use tp_spec::NoMemory;
+
+const DONE: u8 = 0;
+
+const TOO_LONG: u8 = 4;
+
+const LOAD_FAILED: u8 = 5;
+
+const PUT_FAILED: u8 = 6;
+
+const NO_MEMORY: u8 = 7;
+
+/// The next readings of a clock.
+fn read_each<C: Clock>(alloc: Global, clock: &mut C, times: u32) -> Result<Vec<u64>, NoMemory>
+    ensures number { IfOk result (λ taken. length taken.items ≡ times) }
+    ensures count { OnOk result (C.count clock.new ≡ count_after (C.count clock.old) times) }
+    ensures next { IfOk result (λ taken. IfSome (C.given clock.old)
+        (λ readings. AreNext readings (C.count clock.old) taken.items)) }
+{
+    let mut taken = Vec::new(alloc);
+    for _ in 0..times {
+        let reading = clock.read();
+        let Ok(()) = taken.push(reading) else {
+            return Err(NoMemory);
+        };
+    }
+    Ok(taken)
+}
+
+/// Loads a file, passes the gate, and puts the file out twice. Gives a status as a program has.
+fn put_twice<F: Files, O: Sink, G: Gate>(
+    alloc: Global,
+    name: &str,
+    files: &mut F,
+    out: &mut O,
+    gate: &G,
+) -> u8
+    ensures done { result ≡ DONE → IfSome (F.contents files.old) (λ content. (text : List ℕ)
+        × (content name.now ≡ Some text)
+        × Appends (O.held out.old) (O.held out.new) (text ++ text)) }
+    ensures load { result ≡ LOAD_FAILED → Rose (F.load_faults files.old) (F.load_faults files.new) }
+    ensures put { result ≡ PUT_FAILED → Rose (O.faults out.old) (O.faults out.new) }
+    ensures front { result ≡ PUT_FAILED → IfSome (F.contents files.old) (λ content. (text : List ℕ)
+        × (content name.now ≡ Some text)
+        × AppendsFront (O.held out.old) (O.held out.new) (text ++ text)) }
+    ensures contents { F.contents files.new ≡ F.contents files.old }
+{
+    let text = match files.load(alloc, name, 64) {
+        Ok(text) => text,
+        Err(LoadFault::Failed) => return LOAD_FAILED,
+        Err(LoadFault::TooLong) => return TOO_LONG,
+        Err(LoadFault::NoMemory) => return NO_MEMORY,
+    };
+    gate.pass(1, 0, Point::Idle);
+    for _ in 0..2 {
+        match out.put(&text) {
+            Ok(()) => {}
+            Err(SendFault::Failed) => return PUT_FAILED,
+            Err(SendFault::NoMemory) => return NO_MEMORY,
+        }
+    }
+    DONE
+}
+
+fn can_be_sent<T: Send>(_: &T) {}
+
+#[test]
+fn fakes_by_their_traits(rt: HostRuntime) -> Result<(), Fail> {
+    let alloc = rt.alloc();
+    let name = String::from_str(alloc, "a")?;
+    let contents = vec![in alloc; (name, b"do\n".to_vec(alloc)?)]?;
+    let mut files = MemoryFiles::new(contents, vec![in alloc; 1, 4]?);
+    let mut out = MemorySink::new(alloc, vec![in alloc; (3, 1)]?);
+    can_be_sent(&out);
+
+    // Of the calls of files, 1 and 4 fail; of the puts, 3 fails after one byte.
+    for (name, status) in [
+        ("a", DONE),
+        ("a", LOAD_FAILED),
+        ("b", LOAD_FAILED),
+        ("a", PUT_FAILED),
+    ] {
+        let given = put_twice(alloc, name, &mut files, &mut out, &OpenGate);
+        assert_eq!(rt; given, status, "at {name}");
+    }
+    assert_eq!(rt; out.bytes(), b"do\ndo\ndo\nd".as_slice());
+
+    assert_eq!(rt; files.save(alloc, "b", b"x"), Err(SaveFault::Failed));
+    assert_eq!(rt; files.content("b").is_none(), true);
+    assert_eq!(rt; files.save(alloc, "b", b"yes"), Ok(()));
+    assert_eq!(rt; files.save(alloc, "a", b"no"), Ok(()));
+    assert_eq!(rt; files.content("b").ok_or("b")?, b"yes".as_slice());
+    assert_eq!(rt; files.content("a").ok_or("a")?, b"no".as_slice());
+    assert_eq!(rt;
+        files
+            .load(alloc, "b", 2)
+            .is_err_and(|e| e == LoadFault::TooLong),
+        true
+    );
+    assert_eq!(rt;
+        files.load(alloc, "b", 3).ok().ok_or("b")?.as_slice(),
+        b"yes".as_slice()
+    );
+
+    let mut clock = ListClock::new(vec![in alloc; 7, 3, 9]?);
+    can_be_sent(&clock);
+    clock.begin(1000);
+    let taken = read_each(alloc, &mut clock, 4).ok().ok_or("memory")?;
+    assert_eq!(rt; taken.as_slice(), [7, 3, 9, 9].as_slice());
+    let mut empty = ListClock::new(vec![in alloc]?);
+    assert_eq!(rt; empty.read(), 0);
+    Ok(())
+}
+
+#[test]
+fn disk_files(rt: HostRuntime) -> Result<(), Fail> {
+    let alloc = rt.alloc();
+    let name = "disk_files.test";
+    let mut files = DiskFiles::new(rt);
+    assert_eq!(rt; files.save(alloc, name, b"plan\nend 5\n"), Ok(()));
+    assert_eq!(rt; files.save(alloc, name, b"plan\n"), Ok(()));
+    let text = files.load(alloc, name, 5).ok().ok_or("load")?;
+    assert_eq!(rt; text.as_slice(), b"plan\n".as_slice());
+    assert_eq!(rt;
+        files
+            .load(alloc, name, 4)
+            .is_err_and(|e| e == LoadFault::TooLong),
+        true
+    );
+    fs::remove_file(&rt, name)?;
+    assert_eq!(rt;
+        files
+            .load(alloc, name, 5)
+            .is_err_and(|e| e == LoadFault::Failed),
+        true
+    );
+    assert_eq!(rt; files.save(alloc, "", b"plan\n"), Err(SaveFault::Failed));
+    Ok(())
+}
+
+#[test]
+fn standard_output(rt: HostRuntime) {
+    let mut out = StdSink::new(rt);
+    can_be_sent(&out);
+    assert_eq!(rt; out.put(b"0: (go a b) [5]\n"), Ok(()));
+}
+
+#[test]
+fn elapsed_clock_and_pauses(rt: HostRuntime) {
+    let mut clock = ElapsedClock::new(rt);
+    can_be_sent(&clock);
+    clock.begin(1_000);
+    let gate = PauseGate::new(rt);
+    let before = clock.read();
+    gate.pass(1, 0, Point::Sprout);
+    gate.pass(1, 0, Point::Idle);
+    gate.pass(0, 0, Point::Look);
+    let after = clock.read();
+    assert!(rt; before < 60_000);
+    assert!(rt; before.saturating_add(9) <= after);
+}
