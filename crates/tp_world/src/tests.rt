@@ -68,14 +68,16 @@ fn put_twice<F: Files, O: Sink, G: Gate>(
         Err(LoadFault::NoMemory) => return NO_MEMORY,
     };
     gate.pass(1, 0, Point::Idle);
-    for _ in 0..2 {
-        match out.put(&text) {
-            Ok(()) => {}
-            Err(SendFault::Failed) => return PUT_FAILED,
-            Err(SendFault::NoMemory) => return NO_MEMORY,
-        }
+    match out.put(&text) {
+        Ok(()) => {}
+        Err(SendFault::Failed) => return PUT_FAILED,
+        Err(SendFault::NoMemory) => return NO_MEMORY,
     }
-    DONE
+    match out.put(&text) {
+        Ok(()) => DONE,
+        Err(SendFault::Failed) => PUT_FAILED,
+        Err(SendFault::NoMemory) => NO_MEMORY,
+    }
 }
 
 fn can_be_sent<T: Send>(_: &T) {}
