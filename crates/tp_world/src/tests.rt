@@ -82,16 +82,32 @@ fn put_twice<F: Files, O: Sink, G: Gate>(
 
 fn can_be_sent<T: Send>(_: &T) {}
 
+/// Whether a load gave just these bytes.
+fn gives(loaded: &Result<Vec<u8>, LoadFault>, bytes: &[u8]) -> bool {
+    match loaded {
+        Ok(text) => text.as_slice() == bytes,
+        Err(_) => false,
+    }
+}
+
+/// Whether a load was refused for this fault.
+fn refuses(loaded: &Result<Vec<u8>, LoadFault>, fault: LoadFault) -> bool {
+    match loaded {
+        Ok(_) => false,
+        Err(e) => *e == fault,
+    }
+}
+
 #[test]
 fn fakes_by_their_traits(rt: HostRuntime) -> Result<(), Fail> {
     let alloc = rt.alloc();
     let name = String::from_str(alloc, "a")?;
     let contents = vec![in alloc; (name, b"do\n".to_vec(alloc)?)]?;
+
+    // Of the calls of files, 1 and 4 fail; of the puts, 3 fails after one byte.
     let mut files = MemoryFiles::new(contents, vec![in alloc; 1, 4]?);
     let mut out = MemorySink::new(alloc, vec![in alloc; (3, 1)]?);
     can_be_sent(&out);
-
-    // Of the calls of files, 1 and 4 fail; of the puts, 3 fails after one byte.
     for (name, status) in [
         ("a", DONE),
         ("a", LOAD_FAILED),
@@ -99,68 +115,55 @@ fn fakes_by_their_traits(rt: HostRuntime) -> Result<(), Fail> {
         ("a", PUT_FAILED),
     ] {
         let given = put_twice(alloc, name, &mut files, &mut out, &OpenGate);
-        assert_eq!(rt; given, status, "at {name}");
+        assert!(rt; given == status, "at {name}");
     }
-    assert_eq!(rt; out.bytes(), b"do\ndo\ndo\nd".as_slice());
+    assert!(rt; out.bytes() == b"do\ndo\ndo\nd".as_slice());
 
-    assert_eq!(rt; files.save(alloc, "b", b"x"), Err(SaveFault::Failed));
-    assert_eq!(rt; files.content("b").is_none(), true);
-    assert_eq!(rt; files.save(alloc, "b", b"yes"), Ok(()));
-    assert_eq!(rt; files.save(alloc, "a", b"no"), Ok(()));
-    assert_eq!(rt; files.content("b").ok_or("b")?, b"yes".as_slice());
-    assert_eq!(rt; files.content("a").ok_or("a")?, b"no".as_slice());
-    assert_eq!(rt;
-        files
-            .load(alloc, "b", 2)
-            .is_err_and(|e| e == LoadFault::TooLong),
-        true
-    );
-    assert_eq!(rt;
-        files.load(alloc, "b", 3).ok().ok_or("b")?.as_slice(),
-        b"yes".as_slice()
-    );
-
-    let mut clock = ListClock::new(vec![in alloc; 7, 3, 9]?);
-    can_be_sent(&clock);
-    clock.begin(1000);
-    let taken = read_each(alloc, &mut clock, 4).ok().ok_or("memory")?;
-    assert_eq!(rt; taken.as_slice(), [7, 3, 9, 9].as_slice());
-    let mut empty = ListClock::new(vec![in alloc]?);
-    assert_eq!(rt; empty.read(), 0);
+    for (name, bytes, saved) in [
+        ("b", b"x", Err(SaveFault::Failed)),
+        ("b", b"y", Ok(())),
+        ("a", b"z", Ok(())),
+    ] {
+        assert!(rt; files.save(alloc, name, bytes) == saved, "at {name}");
+    }
+    assert!(rt; files.content("c").is_none());
+    assert!(rt; gives(&files.load(alloc, "b", 1), b"y"));
+    assert!(rt; gives(&files.load(alloc, "a", 1), b"z"));
+    assert!(rt; refuses(&files.load(alloc, "a", 0), LoadFault::TooLong));
     Ok(())
 }
 
 #[test]
-fn disk_files(rt: HostRuntime) -> Result<(), Fail> {
+fn list_clock(rt: HostRuntime) -> Result<(), Fail> {
+    let alloc = rt.alloc();
+    let mut clock = ListClock::new(vec![in alloc; 7, 3, 9]?);
+    can_be_sent(&clock);
+    clock.begin(1000);
+    let taken = read_each(alloc, &mut clock, 4).ok().ok_or("memory")?;
+    assert!(rt; taken.as_slice() == [7, 3, 9, 9].as_slice());
+    assert!(rt; ListClock::new(Vec::new(alloc)).read() == 0);
+    Ok(())
+}
+
+#[test]
+fn disk_files(rt: HostRuntime) {
     let alloc = rt.alloc();
     let name = "disk_files.test";
     let mut files = DiskFiles::new(rt);
-    assert_eq!(rt; files.save(alloc, name, b"plan\nend 5\n"), Ok(()));
-    assert_eq!(rt; files.save(alloc, name, b"plan\n"), Ok(()));
-    let text = files.load(alloc, name, 5).ok().ok_or("load")?;
-    assert_eq!(rt; text.as_slice(), b"plan\n".as_slice());
-    assert_eq!(rt;
-        files
-            .load(alloc, name, 4)
-            .is_err_and(|e| e == LoadFault::TooLong),
-        true
-    );
-    fs::remove_file(&rt, name)?;
-    assert_eq!(rt;
-        files
-            .load(alloc, name, 5)
-            .is_err_and(|e| e == LoadFault::Failed),
-        true
-    );
-    assert_eq!(rt; files.save(alloc, "", b"plan\n"), Err(SaveFault::Failed));
-    Ok(())
+    assert!(rt; files.save(alloc, name, b"plan\nend 5\n").is_ok());
+    assert!(rt; files.save(alloc, name, b"plan\n").is_ok());
+    assert!(rt; gives(&files.load(alloc, name, 5), b"plan\n"));
+    assert!(rt; refuses(&files.load(alloc, name, 4), LoadFault::TooLong));
+    assert!(rt; fs::remove_file(&rt, name).is_ok());
+    assert!(rt; refuses(&files.load(alloc, name, 5), LoadFault::Failed));
+    assert!(rt; files.save(alloc, "", b"plan\n").is_err());
 }
 
 #[test]
 fn standard_output(rt: HostRuntime) {
     let mut out = StdSink::new(rt);
     can_be_sent(&out);
-    assert_eq!(rt; out.put(b"0: (go a b) [5]\n"), Ok(()));
+    assert!(rt; out.put(b"0: (go a b) [5]\n").is_ok());
 }
 
 #[test]
