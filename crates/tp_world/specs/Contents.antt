@@ -1,5 +1,6 @@
 -- The contents of files by name, where they are told at all.
-use Rattle.std.specs.Prelude.{◌≡◌, ◌≢◌, ℕ, Bool, List, Option, Some, None, ⊤, find, string_bytes, Vec, String, [], ◌∷◌, ◌++◌}
+use Rattle.std.specs.Prelude.{◌≡◌, ◌≢◌, ℕ, Bool, List, Option, Some, None, ⊤, find, string_bytes, Vec, String, ◌==◌}
+use Rattle.std.specs.List.{list_any}
 use Rattle.std.specs.Option.{option_map}
 use Rattle.std.specs.Str.{bytes_eq}
 
@@ -15,14 +16,23 @@ Stores None new name bytes = ⊤
 Stores (Some before) None name bytes = ⊥
 Stores (Some before) (Some now) name bytes = (now name ≡ Some bytes) × ((other : List ℕ) → other ≢ name → now other ≡ before other)
 
--- the entry is that of this name
-abbrev pub is_named : {Y Z : Type 0} → List ℕ → String Y × Vec ℕ Z → Bool
-is_named name entry = bytes_eq (string_bytes entry.0) name
+-- the bytes of the first file of this name
+abbrev pub content_of : List (List ℕ × List ℕ) → List ℕ → Option (List ℕ)
+content_of files name = option_map (λ file. file.1) (find (λ file. bytes_eq file.0 name) files)
 
--- the bytes of the first entry of this name
-abbrev pub content_of : {Y Z : Type 0} → List (String Y × Vec ℕ Z) → List ℕ → Option (List ℕ)
-content_of entries name = option_map (λ entry. entry.1.items) (find (is_named name) entries)
+-- the name of an entry and its bytes
+abbrev pub file_of : {Y Z : Type 0} → String Y × Vec ℕ Z → List ℕ × List ℕ
+file_of entry = (string_bytes entry.0, entry.1.items)
 
--- one entry of this name and these bytes stands behind the others
-abbrev pub IsAppended : {Y Z : Type 0} → List (String Y × Vec ℕ Z) → List (String Y × Vec ℕ Z) → List ℕ → List ℕ → Type 0
-IsAppended {Y} {Z} before now name bytes = (entry : String Y × Vec ℕ Z) × (now ≡ before ++ entry ∷ []) × (string_bytes entry.0 ≡ name) × (entry.1.items ≡ bytes)
+-- files in memory: each name with its bytes, the numbers of the calls that fail, how many calls there
+-- were, and how many loads and how many saves failed
+pub record FilesState : Type 0 where
+  pub files : List (List ℕ × List ℕ)
+  pub failing : List ℕ
+  pub calls : ℕ
+  pub load_faults : ℕ
+  pub save_faults : ℕ
+
+-- the next call is one of those that fail
+abbrev pub fails_next : FilesState → Bool
+fails_next f = list_any (λ number. number == f.calls) f.failing

@@ -10,3 +10,11 @@ AppendsFront old new bytes = (n : ℕ) × Appends old new (take n bytes)
 -- how many bytes of this put go out before it fails, where it is one that fails
 abbrev pub bytes_of_put : List (ℕ × ℕ) → ℕ → Option ℕ
 bytes_of_put failing number = option_map (λ pair. pair.1) (find (λ pair. pair.0 == number) failing)
+
+-- a sink in memory: what it holds, the puts that fail with how many of their bytes still go out, how
+-- many puts there were, and how many of them failed
+pub record SinkState : Type 0 where
+  pub bytes : List ℕ
+  pub failing : List (ℕ × ℕ)
+  pub puts : ℕ
+  pub faults : ℕ

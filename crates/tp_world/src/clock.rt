@@ -2,6 +2,8 @@ ghost use Rattle.std.specs.Prelude.{◌≡◌, ℕ, List, Option, Some, IfSome};
 ghost use Rattle.tp_world.specs.Counts.{one_more};
 ghost use Rattle.tp_world.specs.Readings.{reading_at};
 
+use std::marker::Model;
+
 /// A clock in ticks. It is never refused a reading.
 pub trait Clock {
     /// How often it was read, up to the greatest `u64`.
@@ -42,13 +44,18 @@ pub struct ListClock {
     rate: u32,
 }
 
+impl Model for ListClock {
+    ghost use Rattle.tp_world.specs.Readings.{ClockState};
+
+    ghost Value = { ClockState };
+
+    ghost view = { λ c. record { readings = c.readings.items; count = c.count; last = c.last; rate = c.rate } };
+}
+
 impl ListClock {
     /// A clock that was never read, at one tick a unit of time.
     pub fn new(readings: Vec<u64>) -> ListClock
-        ensures given { ⟦<ListClock as Clock>⟧.given result ≡ Some readings.items }
-        ensures count { ⟦<ListClock as Clock>⟧.count result ≡ 0 }
-        ensures last { ⟦<ListClock as Clock>⟧.last result ≡ 0 }
-        ensures rate { ⟦<ListClock as Clock>⟧.rate result ≡ 1 }
+        ensures { result ≡ record { readings = readings.items; count = 0; last = 0; rate = 1 } }
     {
         ListClock {
             readings,
@@ -66,7 +73,7 @@ impl Clock for ListClock {
 
     ghost rate = { λ c. c.rate };
 
-    ghost given = { λ c. Some c.readings.items };
+    ghost given = { λ c. Some c.readings };
 
     fn begin(&mut self, per_unit: u32) {
         self.rate = per_unit;

@@ -2,11 +2,15 @@
 //! contracts; fakes of them in memory; adapters of the real thing.
 #![tactic(auto)]
 
+mod adapters;
 mod clock;
 mod files;
 mod gate;
 mod sink;
+#[cfg(test)]
+mod tests;
 
+pub use adapters::{DiskFiles, ElapsedClock, PauseGate, StdSink};
 pub use clock::{Clock, ListClock};
 pub use files::{Files, LoadFault, MemoryFiles, SaveFault};
 pub use gate::{Gate, OpenGate, Point};

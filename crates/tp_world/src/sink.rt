@@ -4,6 +4,7 @@ ghost use Rattle.tp_world.specs.Counts.{Rose, one_more};
 ghost use Rattle.tp_world.specs.Sinks.{AppendsFront, bytes_of_put};
 
 use std::alloc::Global;
+use std::marker::Model;
 
 /// Why a put was refused: the sink failed, after it took some bytes from the front or none; or
 /// memory was refused, and it took none.
@@ -39,15 +40,20 @@ pub struct MemorySink {
     faults: u64,
 }
 
+impl Model for MemorySink {
+    ghost use Rattle.tp_world.specs.Sinks.{SinkState};
+
+    ghost Value = { SinkState };
+
+    ghost view = { λ s. record { bytes = s.bytes.items; failing = s.failing.items; puts = s.puts; faults = s.faults } };
+}
+
 impl MemorySink {
     /// A sink that holds nothing. Each pair of `failing` is the number of a put that fails, counted
     /// from 0, and the number of its bytes that still go out, or all where it has fewer. Where
     /// several pairs have one number, the first counts.
     pub fn new(alloc: Global, failing: Vec<(u64, u64)>) -> MemorySink
-        ensures held { ⟦<MemorySink as Sink>⟧.held result ≡ Some [] }
-        ensures faults { ⟦<MemorySink as Sink>⟧.faults result ≡ 0 }
-        ensures failing { result.failing.items ≡ failing.items }
-        ensures puts { result.puts ≡ 0 }
+        ensures { result ≡ record { bytes = []; failing = failing.items; puts = 0; faults = 0 } }
     {
         MemorySink {
             bytes: Vec::new(alloc),
@@ -59,18 +65,34 @@ impl MemorySink {
 
     /// What it holds.
     pub fn bytes(&self) -> &[u8]
-        ensures { ⟦<MemorySink as Sink>⟧.held self.now ≡ Some result.now }
+        ensures { self.now.bytes ≡ result.now }
     {
         &self.bytes
     }
 }
 
 impl Sink for MemorySink {
-    ghost held = { λ s. Some s.bytes.items };
+    ghost held = { λ s. Some s.bytes };
 
     ghost faults = { λ s. s.faults };
 
-    fn put(&mut self, bytes: &[u8]) -> Result<(), SendFault> {
+    /// Memory may be refused at any put, which then appends nothing and still has its number.
+    fn put(&mut self, bytes: &[u8]) -> Result<(), SendFault>
+        ensures ok { OnOk result (bytes_of_put self.old.failing self.old.puts ≡ None) }
+        ensures all { OnOk result (self.new ≡ record self.old {
+          bytes = self.old.bytes ++ bytes.now;
+          puts = one_more self.old.puts;
+        }) }
+        ensures front { IsErrOf result SendFault.Failed → (n : ℕ)
+            × (bytes_of_put self.old.failing self.old.puts ≡ Some n)
+            × (self.new ≡ record self.old {
+              bytes = self.old.bytes ++ take n bytes.now;
+              puts = one_more self.old.puts;
+              faults = one_more self.old.faults;
+            }) }
+        ensures no_memory { IsErrOf result SendFault.NoMemory
+            → self.new ≡ record self.old { puts = one_more self.old.puts } }
+    {
         let number = self.puts;
         self.puts = self.puts.saturating_add(1);
         match bytes_of(&self.failing, number) {
