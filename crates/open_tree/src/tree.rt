@@ -117,14 +117,7 @@ impl<'p, C: Clock> Tree<'p, C> {
                 self.history.push_reserved(Event::Take { actor, id });
                 self.frontier.take_least(actor);
                 let commits = List::new(self.alloc);
-                Ok(Taken::Job(Job::new(
-                    self.problem,
-                    self.limits,
-                    id,
-                    node,
-                    0,
-                    commits,
-                )))
+                Ok(Taken::Job(Job::new(self.problem, self.limits, id, node, 0, commits)))
             }
         }
     }
@@ -171,7 +164,8 @@ impl<'p, C: Clock> Tree<'p, C> {
         match step {
             Step::Stale => Ok(Merged::Stale),
             Step::Publish(plan) => {
-                self.history.push_reserved(Event::Publish { actor, id, plan });
+                self.history
+                    .push_reserved(Event::Publish { actor, id, plan });
                 self.over = true;
                 Ok(Merged::Over)
             }

@@ -5,6 +5,7 @@ use run_cli::run;
 use std::alloc::Global;
 use std::env;
 use std::process::ExitCode;
+use std::rt::Env;
 use tp_world::{DiskFiles, ElapsedClock, PauseGate, StdSink};
 
 /// The words of the command line without the program's name; none where the system or the memory refuses them.

@@ -222,12 +222,7 @@ fn grow<'p, C: Clock>(
 }
 
 /// Prints the result of a history, and tells the status.
-fn print_result<O: Sink>(
-    alloc: Global,
-    problem: &Problem,
-    out: &mut O,
-    history: &[Event],
-) -> u8
+fn print_result<O: Sink>(alloc: Global, problem: &Problem, out: &mut O, history: &[Event]) -> u8
     ensures cases { (result ≡ 0) ⊎ ((result ≡ 1) ⊎ ((result ≡ 2) ⊎ ((result ≡ 6) ⊎ (result ≡ 7)))) }
     ensures write { result ≡ 6 → Rose (O.faults out.old) (O.faults out.new) }
 {

@@ -6,5 +6,7 @@ mod command;
 mod printing;
 mod reader;
 mod sprouting;
+#[cfg(test)]
+mod tests;
 
 pub use command::{Ending, run};
