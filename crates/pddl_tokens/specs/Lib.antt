@@ -3,3 +3,4 @@ pub mod Trees
 pub mod Faults
 pub mod Building
 pub mod Looks
+pub mod Numbers

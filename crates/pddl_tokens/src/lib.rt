@@ -4,9 +4,11 @@
 mod builder;
 mod form;
 mod look;
+mod numbers;
 mod plain;
 mod reader;
 
 pub use form::{Form, Forms, TextFault, Word, spelled_once};
 pub use look::{Head, head_of};
+pub use numbers::{NumberFault, number};
 pub use reader::read_forms;
