@@ -3,7 +3,6 @@ use Rattle.std.proofs.Common.{◌≡◌, ℕ, List, [], ◌∷◌, ◌++◌, ref
 use Rattle.pddl_tokens.specs.Tokens.{Token, Opens, Closes, Spells}
 use Rattle.pddl_tokens.specs.Trees.{Tree, Trees, Leaf, Node, End, More, spelled, all_spelled}
 
-
 -- no tree begins so
 abbrev Stops : List Token → Type 0
 Stops [] = Unit {0}

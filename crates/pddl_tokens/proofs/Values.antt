@@ -1,5 +1,5 @@
 -- Numbers of many digits.
-use Rattle.std.proofs.Common.{◌≡◌, ℕ, zero, suc, ◌+◌, ◌-◌, ◌*◌, ◌^◌, ◌/◌, ◌%◌, ◌<◌, ◌≤◌, Bool, true, false, cond, not, ◌&&◌, nat_eq, nat_lt, List, [], ◌∷◌, ◌++◌, length, map, take, drop, min, Option, Some, None, Result, Ok, Err, refl, ap, sym, subst, ◌∙◌, arith, append_assoc, length-drop, pos, neg_ℤ, ℤ, ◌⊎◌, inl, inr, length-append}
+use Rattle.std.proofs.Common.{◌≡◌, ℕ, zero, suc, ◌+◌, ◌-◌, ◌*◌, ◌^◌, ◌/◌, ◌%◌, ◌<◌, ◌≤◌, Bool, true, false, cond, ◌&&◌, nat_eq, nat_lt, List, [], ◌∷◌, ◌++◌, length, map, take, drop, min, Some, None, Ok, Err, refl, ap, sym, subst, ◌∙◌, arith, append_assoc, length-drop, pos, neg_ℤ, ◌⊎◌, inl, inr}
 use Rattle.std.specs.List.{list_all}
 use Rattle.std.specs.Char.{is_ascii_digit}
 use Rattle.std.specs.Int.Digits.{number_from_digits_after, AllBelowBase}
@@ -8,7 +8,6 @@ use Rattle.std.proofs.lemmas.List.{map-append, length-map, take-append-drop, dro
 use Rattle.std.proofs.Math.Nat.{pow-suc, mul-pos, le-mul_of_pos_right, mul-lt-mul_of_pos_right}
 use Rattle.std.proofs.lemmas.Nat.{pow-add, div-mul-add, mod-mul-add}
 use Rattle.std.proofs.lemmas.Bool.Decides.{nat_tests}
-use Rattle.pddl_tokens.specs.declared.numbers.NumberFault.{NumberFault}
 use Rattle.pddl_tokens.specs.declared.numbers.NumberFault.TheVariants.{NotWhole, TooLarge}
 use Rattle.pddl_tokens.specs.Numbers.{in_u64, in_range, digit, are_zeros, product_of}
 
@@ -179,7 +178,7 @@ one_or_none places k part (inr e) = let z : places - k ≡ 0 = omega arith in in
 product_is : (scale places k : ℕ) (whole part : List ℕ) → 10 ^ places ≡ scale → IsKept places k part
     → number_from_digits_after 10 0 (map digit (whole ++ part)) * scale
     ≡ number_from_digits_after 10 0 (map digit whole ++ map digit (take k part)) * 10 ^ (places - k) * 10 ^ length part
-      + number_from_digits_after 10 0 (map digit (drop k part)) * 10 ^ k
+    + number_from_digits_after 10 0 (map digit (drop k part)) * 10 ^ k
 product_is scale places k whole part s h =
     let a = number_from_digits_after 10 0 (map digit whole ++ map digit (take k part)) in
     let tail = number_from_digits_after 10 0 (map digit (drop k part)) in

@@ -3,7 +3,7 @@ use Rattle.std.specs.Prelude.{◌≡◌, ℕ, List, [], ◌∷◌, ◌++◌, map
 use Rattle.pddl_tokens.specs.declared.builder.Frame.{Frame}
 use Rattle.pddl_tokens.specs.declared.form.Form.{Form}
 use Rattle.pddl_tokens.specs.declared.form.TextFault.{TextFault}
-use Rattle.pddl_tokens.specs.declared.form.TextFault.TheVariants.{NotUtf8, Unopened, Unclosed, TooDeep, NoMemory}
+use Rattle.pddl_tokens.specs.declared.form.TextFault.TheVariants.{NoMemory}
 use Rattle.pddl_tokens.specs.Tokens.{Token, Opens, tokens_from}
 use Rattle.pddl_tokens.specs.Trees.{trees_of, all_spelled}
 use Rattle.pddl_tokens.specs.Faults.{fault_from}

@@ -104,15 +104,13 @@ impl Builder {
             if self.depth() == DEPTH {
                 return Err(TextFault::TooDeep { at });
             }
-            match self.begin(alloc, at) {
-                Ok(()) => Ok(()),
-                Err(_) => Err(TextFault::NoMemory),
-            }
+            self.begin(alloc, at)?;
+            Ok(())
         } else if c == b')' {
-            match self.end(at) {
-                Ok(true) => Ok(()),
-                Ok(false) => Err(TextFault::Unopened { at }),
-                Err(_) => Err(TextFault::NoMemory),
+            if self.end(at)? {
+                Ok(())
+            } else {
+                Err(TextFault::Unopened { at })
             }
         } else {
             Ok(())

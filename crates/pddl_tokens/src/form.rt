@@ -2,6 +2,7 @@ ghost use Rattle.std.specs.Prelude.{◌≡◌, ◌∷◌, [], ◌++◌};
 ghost use Rattle.pddl_tokens.specs.Tokens.{Spells, Opens, Closes};
 ghost use Rattle.pddl_tokens.specs.Trees.{Trees, tree_of, trees_of, spelled, all_spelled};
 
+use std::alloc::{AllocError, AllocFailed};
 use thiserror::Error;
 use tp_spec::{List, NoMemory};
 
@@ -57,6 +58,28 @@ impl From<NoMemory> for TextFault {
     }
 }
 
+impl From<AllocError> for TextFault {
+    ghost use Rattle.std.specs.Prelude.{◌≡◌};
+    ghost use Rattle.pddl_tokens.specs.declared.form.TextFault.TheVariants.{NoMemory as out_of_memory};
+
+    ghost from_gives = { λ _ fault. fault ≡ out_of_memory };
+
+    fn from(_refused: AllocError) -> TextFault {
+        TextFault::NoMemory
+    }
+}
+
+impl<T: Drop> From<AllocFailed<T>> for TextFault {
+    ghost use Rattle.std.specs.Prelude.{◌≡◌};
+    ghost use Rattle.pddl_tokens.specs.declared.form.TextFault.TheVariants.{NoMemory as out_of_memory};
+
+    ghost from_gives = { λ _ fault. fault ≡ out_of_memory };
+
+    fn from(_refused: AllocFailed<T>) -> TextFault {
+        TextFault::NoMemory
+    }
+}
+
 pub(crate) fn single(word: Word) -> Form
     ensures { spelled (tree_of result) ≡ Spells word.at word.text ∷ [] }
 {
@@ -73,5 +96,4 @@ pub(crate) fn group(at: u32, close: u32, parts: List<Form>) -> Form
 #[tactic(auto, using(crate::proofs::Unique::same_trees))]
 pub fn spelled_once()
     ensures { (ts us : Trees) → all_spelled ts ≡ all_spelled us → ts ≡ us }
-{
-}
+{}

@@ -12,3 +12,6 @@ pub use form::{Form, Forms, TextFault, Word, spelled_once};
 pub use look::{Head, head_of};
 pub use numbers::{NumberFault, number};
 pub use reader::read_forms;
+
+#[cfg(test)]
+mod tests;

@@ -29,19 +29,13 @@ fn step(
     ensures short { OnOk result (vec_len word.new ≤ at + 1) }
 {
     if is_letter(c) {
-        match word.push(c) {
-            Ok(()) => Ok(()),
-            Err(_) => Err(TextFault::NoMemory),
-        }
+        word.push(c)?;
     } else {
-        match tree.finish_word(alloc, at, word) {
-            Ok(()) => {}
-            Err(_) => return Err(TextFault::NoMemory),
-        }
+        tree.finish_word(alloc, at, word)?;
         word.clear();
         tree.mark(alloc, at, c)?;
-        Ok(())
     }
+    Ok(())
 }
 
 /// The tree of a text without comments, or its first fault; `bad` is the byte behind it that is no text.
@@ -55,10 +49,7 @@ fn read_plain(alloc: Global, plain: &[u8], bad: Option<u32>) -> Result<List<Form
     for i in 0..plain.len() {
         step(alloc, &mut tree, &mut word, i as u32, plain[i])?;
     }
-    match tree.finish_word(alloc, plain.len() as u32, &word) {
-        Ok(()) => {}
-        Err(_) => return Err(TextFault::NoMemory),
-    }
+    tree.finish_word(alloc, plain.len() as u32, &word)?;
     match tree.fault_at_end(bad) {
         Some(fault) => Err(fault),
         None => Ok(tree.into_forms()),
@@ -90,10 +81,7 @@ pub fn read_forms(alloc: Global, text: &[u8]) -> Result<Forms, TextFault>
     ensures fault { Gives result (fault_of text.now) }
 {
     let (valid, bad) = valid_part(text);
-    let plain = match plain_of(alloc, valid) {
-        Ok(plain) => plain,
-        Err(_) => return Err(TextFault::NoMemory),
-    };
+    let plain = plain_of(alloc, valid)?;
     let forms = read_plain(alloc, &plain, bad)?;
     let bytes = text.len() as u32;
     Ok(Forms { forms, bytes })

@@ -1,4 +1,4 @@
-use Rattle.std.proofs.Common.{◌≡◌, ℕ, List, map, length, get_or, drop, ◌<◌, ◌+◌, ◌*◌, sym, ◌∙◌, arith}
+use Rattle.std.proofs.Common.{ℕ, List, map, length, get_or, drop, ◌<◌, ◌+◌, ◌*◌, sym, ◌∙◌, arith}
 use Rattle.std.specs.Int.Digits.{number_from_digits_after}
 use Rattle.std.proofs.lemmas.List.{at_drop_more}
 use Rattle.pddl_tokens.specs.Numbers.{digit, in_u64}
