@@ -1,4 +1,4 @@
-ghost use Rattle.std.specs.Prelude.{◌≡◌, ◌++◌, ◌^◌, ◌<◌, ◌≤◌, ◌+◌, ◌*◌, map, length, position, nat_eq, IsTrue, IfSome};
+ghost use Rattle.std.specs.Prelude.{◌≡◌, ◌++◌, ◌^◌, ◌<◌, ◌≤◌, ◌+◌, ◌*◌, map, length, position, nat_eq, IsTrue, IfSome, is_some};
 ghost use Rattle.std.specs.List.{list_all};
 ghost use Rattle.std.specs.Char.{is_ascii_digit};
 ghost use Rattle.std.specs.Option.{option_map};
@@ -207,5 +207,15 @@ pub fn number(word: &Word, scale: u32) -> Result<i64, NumberFault>
     match numeral_of(word.text.as_slice()) {
         None => Err(NumberFault::NotNumber),
         Some(numeral) => product_of(numeral, scale),
+    }
+}
+
+/// Whether a word spells a number.
+pub fn is_numeral(word: &Word) -> bool
+    ensures { result ≡ is_some (numeral_of word.now.text) }
+{
+    match numeral_of(word.text.as_slice()) {
+        None => false,
+        Some(_) => true,
     }
 }
