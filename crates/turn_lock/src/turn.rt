@@ -1,0 +1,29 @@
+//! The lock, its seats and the value that a seat holds for a turn.
+ghost use Rattle.std.specs.Prelude.{◌≡◌};
+
+use crate::rule::{Opening, Place, Tickets, View};
+use crate::story::Story;
+use atomic_table::Table;
+use std::alloc::Global;
+use std::snapshot::Snapshot;
+
+/// A lock by tickets over a value. Threads share it where the value may go from one to another.
+pub struct Turn<V: Story> {
+    pub(crate) table: Table<Option<V>, View<V, V::Entry>, Opening<V>, Tickets, Global>,
+    ghost sized: { (table.shared.table_id.words ≡ 3) × (table.shared.table_id.slots ≡ 1) },
+}
+
+/// What one thread enters the lock with. It knows the entries that it has seen and the turns that it made.
+pub struct Seat<V: Story> {
+    pub(crate) parts: u32,
+    pub(crate) place: Place<V>,
+}
+
+/// The value, for one turn. It ends in `Turn::leave`.
+pub struct Held<V: Story> {
+    pub value: V,
+    pub(crate) entered: Snapshot<V>,
+    pub(crate) count: u64,
+    pub(crate) parts: u32,
+    pub(crate) place: Place<V>,
+}
