@@ -3,6 +3,7 @@
 
 mod plays;
 mod rule;
+mod seats;
 mod steps;
 mod story;
 mod turn;
