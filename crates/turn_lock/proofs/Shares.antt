@@ -228,10 +228,12 @@ module _ {V E : Type 0} (entries : V → List E) (same : V → V → Type 0) (op
       there (Some u) n = refl
 
   -- the value that is found in the slot at the close
-  pub closes_with : (id : ℕ) (v : W) (words : List ℕ) (slots : List (Option V)) (x : Option V) (value : V) → v.stage ≡ Idle → v.parts ≡ parts
-      → Final (Seen Rule id v) words slots → get_elem? slots 0 ≡ maybe.some x → x ≡ Some value → Closes entries same opened v value
-  closes_with id v words slots x value idle whole f at is = subst (ClosesSlot entries same opened v) is (closes id v words slots x idle whole f at)
+  pub closes_with : (id : ℕ) (v w : W) → w ≡ v → (words : List ℕ) (slots : List (Option V)) (x : Option V) (value : V) → v.stage ≡ Idle → v.parts ≡ parts
+      → Final (Seen Rule id w) words slots → get_elem? slots 0 ≡ maybe.some x → x ≡ Some value → Closes entries same opened v value
+  closes_with id v w e words slots x value idle whole f at is =
+      subst (ClosesSlot entries same opened v) is (closes id v words slots x idle whole (subst (λ u. Final (Seen Rule id u) words slots) e f) at)
 
-  pub closes_full : (id : ℕ) (v : W) (words : List ℕ) (slots : List (Option V)) (x : Option V) → v.stage ≡ Idle → v.parts ≡ parts
-      → Final (Seen Rule id v) words slots → get_elem? slots 0 ≡ maybe.some x → x ≡ None → ⊥
-  closes_full id v words slots x idle whole f at is = subst (ClosesSlot entries same opened v) is (closes id v words slots x idle whole f at)
+  pub closes_full : (id : ℕ) (v w : W) → w ≡ v → (words : List ℕ) (slots : List (Option V)) (x : Option V) → v.stage ≡ Idle → v.parts ≡ parts
+      → Final (Seen Rule id w) words slots → get_elem? slots 0 ≡ maybe.some x → x ≡ None → ⊥
+  closes_full id v w e words slots x idle whole f at is =
+      subst (ClosesSlot entries same opened v) is (closes id v words slots x idle whole (subst (λ u. Final (Seen Rule id u) words slots) e f) at)

@@ -11,3 +11,6 @@ mod turns;
 
 pub use story::Story;
 pub use turn::{Held, Seat, Turn};
+
+#[cfg(test)]
+mod tests;

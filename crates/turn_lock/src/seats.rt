@@ -43,10 +43,7 @@ impl<V: Story> Turn<V> {
         ensures seen { (seen result.0 ≡ seen seat) × (seen result.1 ≡ seen seat) }
         ensures made { (made result.0 ≡ made seat) × (made result.1 ≡ [] ∷ []) }
     {
-        let Seat {
-            parts: all,
-            mut place,
-        } = seat;
+        let (all, mut place) = seat.take_apart();
         let other = cut::<V, Brand>(&self.table.shared, &mut place, parts);
         let left = Seat {
             parts: all - parts,
@@ -69,11 +66,8 @@ impl<V: Story> Turn<V> {
         ensures begins { IsPrefix (seen into) (seen result) × IsPrefix (seen other) (seen result) }
         ensures made { made result ≡ made into ++ made other }
     {
-        let Seat { parts, mut place } = into;
-        let Seat {
-            parts: more,
-            place: from,
-        } = other;
+        let (parts, mut place) = into.take_apart();
+        let (more, from) = other.take_apart();
         let table = &self.table.shared;
         table.join_seat::<Glue>(&mut place, from);
         table.load::<Agree>(&mut place, ENTRIES);
@@ -92,7 +86,7 @@ impl<V: Story> Turn<V> {
         ensures turns { Covers (length (V.entries (opened self))) (length (V.entries result)) (made seat) }
     {
         let Turn { table } = self;
-        let Seat { parts: _, place } = seat;
+        let (_, place) = seat.take_apart();
         let mut closed = table.close_with(place);
         let slot = closed.take(SLOT);
         closed.free();

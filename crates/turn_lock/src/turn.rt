@@ -14,6 +14,7 @@ pub struct Turn<V: Story> {
 }
 
 /// What one thread enters the lock with. It knows the entries that it has seen and the turns that it made.
+/// A seat that is dropped takes its parts with it, and the lock can no longer be closed.
 pub struct Seat<V: Story> {
     pub(crate) parts: u32,
     pub(crate) place: Place<V>,
@@ -26,4 +27,19 @@ pub struct Held<V: Story> {
     pub(crate) count: u64,
     pub(crate) parts: u32,
     pub(crate) place: Place<V>,
+}
+
+impl<V: Story> Seat<V> {
+    pub(crate) fn take_apart(self) -> (u32, Place<V>)
+        ensures { (result.0 ≡ self.parts) × (result.1 ≡ self.place) }
+    {
+        let Seat { parts, place } = self;
+        (parts, place)
+    }
+}
+
+impl<V: Story> Drop for Seat<V> {
+    fn drop(self) {
+        let Seat { parts: _, place: _ } = self;
+    }
 }

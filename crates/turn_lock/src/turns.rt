@@ -84,7 +84,7 @@ impl<V: Story> Turn<V> {
         ensures made { made_before result ≡ made seat }
         ensures parts { parts_held result ≡ parts_of seat }
     {
-        let Seat { parts, mut place } = seat;
+        let (parts, mut place) = seat.take_apart();
         let table = &self.table.shared;
         let ticket = draw(table, &mut place);
         wait(rt, table, &mut place, ticket);
