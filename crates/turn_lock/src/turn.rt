@@ -43,3 +43,14 @@ impl<V: Story> Drop for Seat<V> {
         let Seat { parts: _, place: _ } = self;
     }
 }
+
+fn needs_sync<T: Sync>(_shared: &T) {}
+
+fn needs_send<T: Send>(_moved: &T) {}
+
+// Where the value may go from thread to thread, threads may share the lock, and a seat may go from one to another.
+fn crosses<V: Story + Send>(lock: &Turn<V>, seat: &Seat<V>) {
+    needs_sync(lock);
+    needs_send(lock);
+    needs_send(seat);
+}
