@@ -1,58 +1,63 @@
-//! Measures the lock with seats beside std's `Mutex`, on the same work: a number added to a list in each turn.
-//! `lock_bench KIND THREADS TURNS`, with KIND `lock` or `mutex`, prints the turns per second of so many threads that share
-//! so many turns. Without arguments two threads add numbers under each lock, and the counts are printed.
+//! Measures the lock with seats beside std's `Mutex`, on the same work: each turn reads some numbers of a list and adds one.
+//! `lock_bench KIND THREADS TURNS READS`, with KIND `lock` or `mutex`, prints how many numbers were added and the turns per second.
+//! Without arguments two threads add numbers under each lock, and the counts are printed.
 #![tactic(auto)]
 
-ghost use Rattle.std.specs.Prelude.{◌≡◌, ◌≤◌, ◌<◌, length, vec_len};
+ghost use Rattle.std.specs.Prelude.{◌≡◌, ◌≤◌};
 ghost use Rattle.std.specs.Thread.{IsSync};
 ghost use Rattle.turn_lock.specs.Lock.{IsSeatOf, parts_of};
 
 mod numbers;
 
 use crate::numbers::Numbers;
-use std::alloc::{Alloc, Global};
-use std::env;
-use std::io;
+use std::alloc::Global;
 use std::rt::Clock;
 use std::sync::{Mutex, Wait};
-use std::thread;
 use std::thread::Threads;
 use std::time::{Duration, Instant};
+use std::{env, io, thread};
 use turn_lock::{Seat, Turn};
+
+/// What each thread does: so many turns, in each of which it reads so many numbers.
+#[derive(Clone, Copy)]
+struct Task {
+    turns: u64,
+    reads: usize,
+}
 
 // One thread's turns under the lock with seats.
 fn take_turns<R: Wait>(
     rt: &R,
     lock: &Turn<Numbers>,
     seat: Seat<Numbers>,
-    turns: u64,
+    task: Task,
 ) -> Seat<Numbers>
     requires { IsSeatOf lock.now seat }
     ensures { IsSeatOf lock.entry.now result × (parts_of result ≡ parts_of seat) }
 {
     let mut seat = seat;
-    for number in 0..turns {
+    for number in 0..task.turns {
         let mut held = lock.enter(rt, seat);
-        held.value.add(number);
+        held.value.add(number, task.reads);
         seat = lock.leave(held);
     }
     seat
 }
 
-// So many turns in each of as many threads as the seat has parts.
+// The task in each of as many threads as the seat has parts.
 #[cycle(spread)]
 fn spread<R: Threads + Wait + Sync>(
     rt: &R,
     lock: &Turn<Numbers>,
     seat: Seat<Numbers>,
     threads: u32,
-    turns: u64,
+    task: Task,
 ) -> Seat<Numbers>
     requires { IsSeatOf lock.now seat × (parts_of seat ≡ threads) }
     ensures { IsSeatOf lock.entry.now result × (parts_of result ≡ threads) }
 {
     if threads < 2 {
-        return take_turns(rt, lock, seat, turns);
+        return take_turns(rt, lock, seat, task);
     }
     let few = threads / 2;
     let more = threads - few;
@@ -62,26 +67,31 @@ fn spread<R: Threads + Wait + Sync>(
         || -> Seat<Numbers>
             requires { IsSync R.row × IsSeatOf lock.now one × (parts_of one ≡ more) }
             ensures { IsSeatOf lock.entry.now result × (parts_of result ≡ more) }
-        { spread(rt, lock, one, more, turns) },
+        { spread(rt, lock, one, more, task) },
         || -> Seat<Numbers>
             requires { IsSync R.row × IsSeatOf lock.now two × (parts_of two ≡ few) }
             ensures { IsSeatOf lock.entry.now result × (parts_of result ≡ few) }
-        { spread(rt, lock, two, few, turns) },
+        { spread(rt, lock, two, few, task) },
     );
     lock.join(one, two)
 }
 
 // One thread's turns under a mutex.
-fn lock_often<R: Wait>(rt: &R, shared: &Mutex<Numbers>, turns: u64) {
-    for number in 0..turns {
-        shared.lock(rt).add(number);
+fn lock_often<R: Wait>(rt: &R, shared: &Mutex<Numbers>, task: Task) {
+    for number in 0..task.turns {
+        shared.lock(rt).add(number, task.reads);
     }
 }
 
 #[cycle(spread_mutex)]
-fn spread_mutex<R: Threads + Wait + Sync>(rt: &R, shared: &Mutex<Numbers>, threads: u32, turns: u64) {
+fn spread_mutex<R: Threads + Wait + Sync>(
+    rt: &R,
+    shared: &Mutex<Numbers>,
+    threads: u32,
+    task: Task,
+) {
     if threads < 2 {
-        return lock_often(rt, shared, turns);
+        return lock_often(rt, shared, task);
     }
     let few = threads / 2;
     let more = threads - few;
@@ -89,20 +99,20 @@ fn spread_mutex<R: Threads + Wait + Sync>(rt: &R, shared: &Mutex<Numbers>, threa
         rt,
         ||
             requires { IsSync R.row }
-        { spread_mutex(rt, shared, more, turns) },
+        { spread_mutex(rt, shared, more, task) },
         ||
             requires { IsSync R.row }
-        { spread_mutex(rt, shared, few, turns) },
+        { spread_mutex(rt, shared, few, task) },
     );
 }
 
 // How long the threads take together under the lock with seats, and how many numbers were added.
 fn time_lock<R: Threads + Wait + Clock + Sync>(
     rt: &R,
-    numbers: Numbers,
     alloc: Global,
+    numbers: Numbers,
     threads: u32,
-    turns: u64,
+    task: Task,
 ) -> io::Result<(Duration, u64)>
     requires { 1 ≤ threads }
 {
@@ -110,7 +120,7 @@ fn time_lock<R: Threads + Wait + Clock + Sync>(
         return Err(io::Error::from(io::ErrorKind::OutOfMemory));
     };
     let start = Instant::now(rt);
-    let seat = spread(rt, &lock, seat, threads, turns);
+    let seat = spread(rt, &lock, seat, threads, task);
     let numbers = lock.close(seat);
     Ok((start?.elapsed(rt)?, numbers.len()))
 }
@@ -119,11 +129,11 @@ fn time_mutex<R: Threads + Wait + Clock + Sync>(
     rt: &R,
     numbers: Numbers,
     threads: u32,
-    turns: u64,
+    task: Task,
 ) -> io::Result<(Duration, u64)> {
     let shared = Mutex::new(numbers);
     let start = Instant::now(rt)?;
-    spread_mutex(rt, &shared, threads, turns);
+    spread_mutex(rt, &shared, threads, task);
     let numbers = shared.into_inner();
     Ok((start.elapsed(rt)?, numbers.len()))
 }
@@ -144,20 +154,34 @@ fn usage() -> io::Error {
 fn main(rt: HostRuntime) -> io::Result<()> {
     let mut args = env::args(&rt)?;
     let Some(kind) = args.nth(1) else {
-        let lock = time_lock(&rt, Numbers::with_room(rt.alloc(), 2_000)?, rt.alloc(), 2, 1_000)?;
-        let mutex = time_mutex(&rt, Numbers::with_room(rt.alloc(), 2_000)?, 2, 1_000)?;
+        let task = Task {
+            turns: 1_000,
+            reads: 10,
+        };
+        let lock = time_lock(
+            &rt,
+            rt.alloc(),
+            Numbers::with_room(rt.alloc(), 2_000)?,
+            2,
+            task,
+        )?;
+        let mutex = time_mutex(&rt, Numbers::with_room(rt.alloc(), 2_000)?, 2, task)?;
         return println!(rt; "lock {} mutex {}", lock.1, mutex.1);
     };
     let threads: u32 = args.next().ok_or(usage())?.parse().map_err(|_| usage())?;
     let turns: u64 = args.next().ok_or(usage())?.parse().map_err(|_| usage())?;
+    let reads: usize = args.next().ok_or(usage())?.parse().map_err(|_| usage())?;
     if threads == 0 {
         return Err(usage());
     }
-    let each = turns / u64::from(threads);
+    let task = Task {
+        turns: turns / u64::from(threads),
+        reads,
+    };
     let numbers = Numbers::with_room(rt.alloc(), turns as usize)?;
     let (took, added) = match kind.as_str() {
-        "lock" => time_lock(&rt, numbers, rt.alloc(), threads, each)?,
-        "mutex" => time_mutex(&rt, numbers, threads, each)?,
+        "lock" => time_lock(&rt, rt.alloc(), numbers, threads, task)?,
+        "mutex" => time_mutex(&rt, numbers, threads, task)?,
         _ => return Err(usage()),
     };
     println!(rt; "{} {}", added, rate(took, added))

@@ -19,12 +19,13 @@ impl Numbers {
         })
     }
 
-    /// Adds a number, where there is room.
-    pub fn add(&mut self, number: u64)
+    /// Reads the last `reads` numbers and adds one to them, where there is room.
+    pub fn add(&mut self, number: u64, reads: usize)
         ensures { IsPrefix self.old.items.items self.new.items.items }
     {
+        let last = sum_of_last(self.items.as_slice(), reads);
         if self.items.len() < self.items.capacity() {
-            self.items.push_reserved(number);
+            self.items.push_reserved(last ^ number);
         }
     }
 
@@ -34,6 +35,15 @@ impl Numbers {
     {
         self.items.len() as u64
     }
+}
+
+// The sum of the last numbers, as it wraps.
+fn sum_of_last(items: &[u64], count: usize) -> u64 {
+    let mut sum = 0u64;
+    for number in &items[items.len().saturating_sub(count)..] {
+        sum = sum.wrapping_add(*number);
+    }
+    sum
 }
 
 impl Story for Numbers {

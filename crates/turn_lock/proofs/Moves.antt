@@ -91,8 +91,7 @@ module _ {V E : Type 0} (entries : V → List E) (same : V → V → Type 0) (op
       let w : W = at_stage me.0 (Waiting t) in
       let k = r.each id me.0 at in
       let three : length s.words ≡ 3 = r.wide in
-      let b : busy me.0.stage ≡ 0 = ap busy idle in
-      (
+      let b : busy me.0.stage ≡ 0 = ap busy idle in (
         w,
         keeps,
         tt,
@@ -150,61 +149,60 @@ module _ {V E : Type 0} (entries : V → List E) (same : V → V → Type 0) (op
   pub looks : (slots id : ℕ) (me : M) (t : ℕ) → me.0.stage ≡ Waiting t → Allows Rule slots id me 2 (λ n. n) (λ n w. Looks entries same me n w)
   looks slots id me t waits s r wide at small = dite (ℕ_discrete (get_or s.words 2 0) (word_of (ticket_of me.0.stage)))
       (λ hit.
-          let k = r.each id me.0 at in
-          let st : StageKept r.log r.done r.drawn r.holder r.home id me.0 (Waiting t) = subst (StageKept r.log r.done r.drawn r.holder r.home id me.0) waits k.stage in
-          let words : word_of r.done ≡ word_of t = sym r.served ∙ (hit ∙ ap (λ z. word_of (ticket_of z)) waits) in
-          let now : r.done ≡ t = one_turn r.done t 18446744073709551616 st.0 (omega (arith, st.1, few_held s r, r.few)) words in
-          let home = at_home r.home (st.4 (sym now)) in
-          let v : V = home.0 in
-          let good = good_at r.log r.home v r.value home.1 in
-          let w : W = served me.0 (entries v) in
-          let mine : r.holder r.done ≡ id = ap r.holder now ∙ st.2 in
-          let slot : s.homes ≡ maybe.some (Some v) ∷ [] = r.slot ∙ ap (λ o. slot_of o ∷ []) home.1 in
-          let here : busy me.0.stage ≡ 1 = ap busy waits in
-          (
-            w,
-            takes 0 (Some v),
-            ap (λ hs. get_elem? hs 0) slot,
-            subst (λ ws. Rule record { words = ws; homes = set s.homes 0 maybe.none; views = set s.views id w }) (sym (set-get_or s.words 2 0)) (record {
-              log = r.log;
-              done = r.done;
-              drawn = r.drawn;
-              holder = r.holder;
-              home = None;
-              wide = r.wide;
-              count = r.count;
-              next = r.next;
-              served = r.served;
-              few = r.few;
-              slot = ap (λ hs. set hs 0 maybe.none) slot;
-              value = tt;
-              lent = λ _. omega (arith, st.1);
-              waits = omega (arith, r.waits, sum_set waiting s.views id me.0 w at, here);
-              whole = omega (arith, r.whole, sum_set (λ v. v.parts) s.views id me.0 w at);
-              covered = λ x. omega (arith, r.covered x, sum_set (λ v. stands_in x v.made) s.views id me.0 w at);
-              longer = r.longer;
-              each = seats_stay (Knows opened r.log r.done r.drawn r.holder None) s.views id w
-                  (record {
-                    of = k.of;
-                    seen = subst (λ xs. IsPrefix xs r.log) (sym good.0) (prefix_self r.log);
-                    joined = k.joined;
-                    made = k.made;
-                    none = k.none;
-                    stage = (ap ticket_of waits ∙ sym now, subst (λ u. u < r.drawn) (sym (ap ticket_of waits)) st.1, ap (λ z. r.holder (ticket_of z)) waits ∙ st.2, st.3, refl, good.0);
-                  })
-                  (λ j d n e. let q = r.each j d e in knows_stays r.log r.done r.drawn r.holder r.home r.done r.drawn r.holder None j d q
-                  (others_take r.log r.done r.drawn r.holder r.home id j d d.stage n mine q.stage));
-            }),
-            (
-              (λ _. record {
-                value = v;
-                me = refl;
-                longer = subst (λ xs. IsPrefix me.0.seen xs) (sym good.0) k.seen;
-                charter = λ o e. subst (λ z. same z v) (sym (k.of o e)) good.1;
-              }),
-              λ miss. absurd (miss hit),
-            ),
-          ))
+      let k = r.each id me.0 at in
+      let st : StageKept r.log r.done r.drawn r.holder r.home id me.0 (Waiting t) = subst (StageKept r.log r.done r.drawn r.holder r.home id me.0) waits k.stage in
+      let words : word_of r.done ≡ word_of t = sym r.served ∙ (hit ∙ ap (λ z. word_of (ticket_of z)) waits) in
+      let now : r.done ≡ t = one_turn r.done t 18446744073709551616 st.0 (omega (arith, st.1, few_held s r, r.few)) words in
+      let home = at_home r.home (st.4 (sym now)) in
+      let v : V = home.0 in
+      let good = good_at r.log r.home v r.value home.1 in
+      let w : W = served me.0 (entries v) in
+      let mine : r.holder r.done ≡ id = ap r.holder now ∙ st.2 in
+      let slot : s.homes ≡ maybe.some (Some v) ∷ [] = r.slot ∙ ap (λ o. slot_of o ∷ []) home.1 in
+      let here : busy me.0.stage ≡ 1 = ap busy waits in (
+        w,
+        takes 0 (Some v),
+        ap (λ hs. get_elem? hs 0) slot,
+        subst (λ ws. Rule record { words = ws; homes = set s.homes 0 maybe.none; views = set s.views id w }) (sym (set-get_or s.words 2 0)) (record {
+          log = r.log;
+          done = r.done;
+          drawn = r.drawn;
+          holder = r.holder;
+          home = None;
+          wide = r.wide;
+          count = r.count;
+          next = r.next;
+          served = r.served;
+          few = r.few;
+          slot = ap (λ hs. set hs 0 maybe.none) slot;
+          value = tt;
+          lent = λ _. omega (arith, st.1);
+          waits = omega (arith, r.waits, sum_set waiting s.views id me.0 w at, here);
+          whole = omega (arith, r.whole, sum_set (λ v. v.parts) s.views id me.0 w at);
+          covered = λ x. omega (arith, r.covered x, sum_set (λ v. stands_in x v.made) s.views id me.0 w at);
+          longer = r.longer;
+          each = seats_stay (Knows opened r.log r.done r.drawn r.holder None) s.views id w
+              (record {
+                of = k.of;
+                seen = subst (λ xs. IsPrefix xs r.log) (sym good.0) (prefix_self r.log);
+                joined = k.joined;
+                made = k.made;
+                none = k.none;
+                stage = (ap ticket_of waits ∙ sym now, subst (λ u. u < r.drawn) (sym (ap ticket_of waits)) st.1, ap (λ z. r.holder (ticket_of z)) waits ∙ st.2, st.3, refl, good.0);
+              })
+              (λ j d n e. let q = r.each j d e in knows_stays r.log r.done r.drawn r.holder r.home r.done r.drawn r.holder None j d q
+              (others_take r.log r.done r.drawn r.holder r.home id j d d.stage n mine q.stage));
+        }),
+        (
+          (λ _. record {
+            value = v;
+            me = refl;
+            longer = subst (λ xs. IsPrefix me.0.seen xs) (sym good.0) k.seen;
+            charter = λ o e. subst (λ z. same z v) (sym (k.of o e)) good.1;
+          }),
+          λ miss. absurd (miss hit),
+        ),
+      ))
       (λ miss. (me.0, keeps, tt, unmoved s 2 id me.1 me.0 r at, ((λ hit. absurd (miss hit)), λ _. refl)))
 
   pub counts : (slots id : ℕ) (me : M) (t : ℕ) → me.0.stage ≡ Serving t → Allows Rule slots id me 0 (λ n. n) (λ n w. Counts me n w)
@@ -232,8 +230,7 @@ module _ {V E : Type 0} (entries : V → List E) (same : V → V → Type 0) (op
       let onward : IsPrefix r.log all = subst (λ xs. IsPrefix xs all) st.5 begins in
       let grows : length r.log ≤ length all = prefix_length r.log all onward in
       let mine : r.holder r.done ≡ id = ap r.holder (sym st.0) ∙ st.2 in
-      let counted : (get_or s.words 0 0 + k) % 18446744073709551616 ≡ length all = omega (arith, r.count) in
-      (
+      let counted : (get_or s.words 0 0 + k) % 18446744073709551616 ≡ length all = omega (arith, r.count) in (
         w,
         keeps,
         tt,
@@ -302,8 +299,7 @@ module _ {V E : Type 0} (entries : V → List E) (same : V → V → Type 0) (op
       let w : W = at_stage me.0 Idle in
       let mine : r.holder r.done ≡ id = ap r.holder (sym st.0) ∙ st.2 in
       let here : busy me.0.stage ≡ 1 = ap busy serving in
-      let out : s.homes ≡ maybe.none ∷ [] = r.slot ∙ ap (λ o. slot_of o ∷ []) st.4 in
-      (
+      let out : s.homes ≡ maybe.none ∷ [] = r.slot ∙ ap (λ o. slot_of o ∷ []) st.4 in (
         w,
         gives,
         tt,

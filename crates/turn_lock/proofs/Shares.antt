@@ -68,6 +68,7 @@ module _ {V E : Type 0} (entries : V → List E) (same : V → V → Type 0) (op
     where
       first : Knows opened (entries opened) 0 0 (λ _. 0) (Some opened) 0 (first_view entries opened parts)
       first = record { of = λ o e. cc; seen = prefix_self (entries opened); joined = prefix_none (entries opened); made = (omega arith, tt); none = λ e. absurd (omega arith); stage = tt }
+
       at_first : (seat : ℕ) (v : W) → get_elem? (first_view entries opened parts ∷ []) seat ≡ maybe.some v → Knows opened (entries opened) 0 0 (λ _. 0) (Some opened) seat v
       at_first zero v e = subst (Knows opened (entries opened) 0 0 (λ _. 0) (Some opened) 0) (maybe.some-injective _ v e) first
       at_first (suc k) v e = absurd (maybe.some-ne-none v (sym e))
@@ -162,8 +163,7 @@ module _ {V E : Type 0} (entries : V → List E) (same : V → V → Type 0) (op
   pub agrees : (slots id : ℕ) (me : Me (Option V) W) → me.0.stage ≡ Idle → length me.0.joined ≤ length me.0.seen → Allows Rule slots id me 0 (λ n. n) (λ n w. Agrees me w)
   agrees slots id me idle less_seen s r wide at small =
       let k = r.each id me.0 at in
-      let w : W = record me.0 { joined = [] } in
-      (
+      let w : W = record me.0 { joined = [] } in (
         w,
         keeps,
         tt,
@@ -200,11 +200,11 @@ module _ {V E : Type 0} (entries : V → List E) (same : V → V → Type 0) (op
       let here : get_elem? s.views id ≡ maybe.some v = f.1.1 in
       let k = r.each id v here in
       let others : (j : ℕ) (d : W) → j ≢ id → get_elem? s.views j ≡ maybe.some d → d.parts ≡ 0 =
-          (λ j d n e. omega (arith, r.whole, sum_two (λ (u : W). u.parts) s.views id j v d n here e)) in
+      (λ j d n e. omega (arith, r.whole, sum_two (λ (u : W). u.parts) s.views id j v d n here e)) in
       let quiet : sum_by (λ (u : W). busy u.stage) s.views ≡ 0 =
-          (sum_only (λ (u : W). busy u.stage) s.views id v here
-          (λ j d n e. let z = others j d n e in omega (arith, busy_parts entries same opened parts r.log r.done r.drawn r.holder r.home j d d.stage (r.each j d e).stage))
-          ∙ ap busy idle) in
+      (sum_only (λ (u : W). busy u.stage) s.views id v here
+      (λ j d n e. let z = others j d n e in omega (arith, busy_parts entries same opened parts r.log r.done r.drawn r.holder r.home j d d.stage (r.each j d e).stage))
+      ∙ ap busy idle) in
       let free : r.home ≡ None → ⊥ = (λ e. omega (arith, r.lent e, r.waits, quiet)) in
       let home = at_home entries same opened parts r.home (there r.home free) in
       let value : V = home.0 in

@@ -8,7 +8,7 @@ use crate::plays::{Add, Count, Draw, End, Look};
 use crate::rule::{Place, Shared};
 use crate::story::Story;
 use std::sync::Wait;
-use std::thread;
+use std::{hint, thread};
 
 // Words of the table.
 pub(crate) const ENTRIES: usize = 0;
@@ -16,6 +16,9 @@ pub(crate) const ENTRIES: usize = 0;
 pub(crate) const NEXT: usize = 1;
 
 pub(crate) const SERVED: usize = 2;
+
+// How often the next in line looks before it leaves the processor to others.
+const LOOKS: u32 = 100;
 
 // The slot of the value.
 pub(crate) const SLOT: usize = 0;
@@ -31,23 +34,34 @@ pub(crate) fn draw<V: Story>(table: &Shared<V>, place: &mut Place<V>) -> u64
     table.fetch_add::<Draw>(place, NEXT, 1)
 }
 
+// The next in line looks a few times more. Then it leaves the processor to others, as all those behind it do at once.
+fn pause<V: Story>(table: &Shared<V>, ticket: u64, served: u64)
+    requires { table.now.table_id.words ≡ 3 }
+{
+    if ticket.wrapping_sub(served) == 1 {
+        for _ in 0..LOOKS {
+            if table.peek(SERVED) == ticket {
+                return;
+            }
+            hint::spin_loop();
+        }
+    }
+    thread::yield_now();
+}
+
 // Waits until the ticket is served, and takes the slot out.
-pub(crate) fn wait<V: Story, R: Wait>(
-    rt: &R,
-    table: &Shared<V>,
-    place: &mut Place<V>,
-    ticket: u64,
-)
+pub(crate) fn wait<V: Story, R: Wait>(rt: &R, table: &Shared<V>, place: &mut Place<V>, ticket: u64)
     requires lock { (place.old.table_id ≡ table.now.table_id) × (table.now.table_id.words ≡ 3) }
     requires waits { IsWaiting ticket place.old.me.0.stage }
     ensures same { (place.new.table_id ≡ place.old.table_id) × (place.new.id ≡ place.old.id) }
     ensures taken { Taken V.entries V.same_charter place.old.me place.new.me }
 {
     for _ in rt.forever() {
-        if table.load::<Look>(place, SERVED) == ticket {
+        let served = table.load::<Look>(place, SERVED);
+        if served == ticket {
             return;
         }
-        thread::yield_now();
+        pause(table, ticket, served);
     }
     unreachable!()
 }

@@ -66,7 +66,11 @@ fn add_in_turns<R: Wait>(rt: &R, lock: &Turn<Sheet>, seat: Seat<Sheet>, by: u32)
 }
 
 // Each of two threads has its turns, and both seats come back as one.
-fn two_threads<R: Threads + Wait + Sync>(rt: &R, lock: &Turn<Sheet>, seat: Seat<Sheet>) -> Seat<Sheet>
+fn two_threads<R: Threads + Wait + Sync>(
+    rt: &R,
+    lock: &Turn<Sheet>,
+    seat: Seat<Sheet>,
+) -> Seat<Sheet>
     requires { IsSeatOf lock.now seat × (parts_of seat ≡ 2) }
     ensures { IsSeatOf lock.entry.now result × (parts_of result ≡ 2) }
 {
@@ -113,6 +117,9 @@ fn two_threads_have_their_turns(rt: HostRuntime) -> Result<(), Fail> {
     let sheet = lock.close(seat);
     assert_eq!(rt; (parts, sheet.heading, sheet.lines.len()), (2, 7, 2_000));
     let lines = sheet.lines.as_slice();
-    assert_eq!(rt; (numbers_of(lines, 1), numbers_of(lines, 2)), (Some(TURNS), Some(TURNS)));
+    assert_eq!(rt;
+        (numbers_of(lines, 1), numbers_of(lines, 2)),
+        (Some(TURNS), Some(TURNS))
+    );
     Ok(())
 }

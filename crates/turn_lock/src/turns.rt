@@ -48,11 +48,7 @@ fn only<V>(mut slots: Vec<Option<V>>) -> V
 impl<V: Story> Turn<V> {
     /// A lock over the value, and the seat that holds all its parts and has seen the value's entries.
     /// At `Err` memory was refused, and the value comes back.
-    pub fn new(
-        alloc: Global,
-        value: V,
-        parts: u32,
-    ) -> Result<(Turn<V>, Seat<V>), (NoMemory, V)>
+    pub fn new(alloc: Global, value: V, parts: u32) -> Result<(Turn<V>, Seat<V>), (NoMemory, V)>
         requires parts { 1 ≤ parts }
         requires few { length (V.entries value) < 2 ^ 64 }
         ensures lock { IfOk result (λ r. IsSeatOf r.0 r.1 × (opened r.0 ≡ value) × (all_parts r.0 ≡ parts)) }

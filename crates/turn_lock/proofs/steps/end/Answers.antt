@@ -7,8 +7,7 @@ use Rattle.turn_lock.proofs.steps.end.Goals as goal
 
 pub fetch_add-requires : goal.fetch_add-requires
 fetch_add-requires g c =
-    let e = c.exchange.ensures.3 in
-    (
+    let e = c.exchange.ensures.3 in (
       c.exchange.ensures.0 ∙ c.requires.lock.0,
       omega (arith, c.requires.lock.1),
       adds g.V.Story.entries g.V.Story.same_charter _ _ _ _ _ _ c.requires.serving.0 c.args.value
@@ -23,8 +22,7 @@ pub fetch_add-requires-2 : goal.fetch_add-requires-2
 fetch_add-requires-2 g c =
     let e = c.exchange.ensures.3 in
     let f = c.fetch_add.ensures.2 in
-    let slot = ap (λ m. m.1) e ∙ ap (λ (xs : List (ℕ × Option g.row.V.Denot)). (0, Some c.args.value) ∷ rest xs) c.requires.slot in
-    (
+    let slot = ap (λ m. m.1) e ∙ ap (λ (xs : List (ℕ × Option g.row.V.Denot)). (0, Some c.args.value) ∷ rest xs) c.requires.slot in (
       c.fetch_add.ensures.0 ∙ (c.exchange.ensures.0 ∙ c.requires.lock.0),
       omega (arith, c.requires.lock.1),
       ends g.V.Story.entries g.V.Story.same_charter _ _ _ _ _ c.requires.serving.0 c.args.value

@@ -12,8 +12,7 @@ load-count-requires g c = (
 
 pub exchange-requires : goal.exchange-requires
 exchange-requires g c =
-    let there = ap (λ m. m.1) (c.load-count.ensures.2.1 ∙ c.wait.ensures.taken.me) in
-    (
+    let there = ap (λ m. m.1) (c.load-count.ensures.2.1 ∙ c.wait.ensures.taken.me) in (
       c.load-count.ensures.0 ∙ (c.wait.ensures.same.0 ∙ (c.draw-ticket.ensures.same.0 ∙ (ap (λ p. p.table_id) c.take_apart-parts.ensures.1 ∙ c.requires.table))),
       (Some c.wait.ensures.taken.value, there ∙ ap (λ (xs : List (ℕ × Option g.row.V.Denot)). (0, Some c.wait.ensures.taken.value) ∷ xs) (sym (ap rest there))),
     )

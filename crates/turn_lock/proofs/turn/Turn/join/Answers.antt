@@ -5,8 +5,7 @@ use Rattle.turn_lock.proofs.turn.Turn.join.Goals as goal
 pub join_seat-requires : goal.join_seat-requires
 join_seat-requires g c =
     let into = c.take_apart-parts.ensures.1 in
-    let other = c.take_apart-more.ensures.1 in
-    (
+    let other = c.take_apart-more.ensures.1 in (
       ap (λ p. p.table_id) into ∙ c.requires.into.table,
       ap (λ p. p.table_id) other ∙ c.requires.other.table,
       ap (λ p. p.me.1) other ∙ c.requires.other.free,
@@ -20,8 +19,7 @@ join_seat-requires g c =
 pub load-requires : goal.load-requires
 load-requires g c =
     let into = c.take_apart-parts.ensures.1 in
-    let joined = c.join_seat.ensures.2 in
-    (
+    let joined = c.join_seat.ensures.2 in (
       c.join_seat.ensures.0 ∙ (ap (λ p. p.table_id) into ∙ c.requires.into.table),
       omega (arith, c.args.self.now.sized.0),
       agrees g.V.Story.entries g.V.Story.same_charter _ _ _ _ _
