@@ -1,20 +1,19 @@
 -- Each step of the lock keeps its rule.
-use Rattle.std.proofs.Common.{◌≡◌, ◌≢◌, ℕ, zero, suc, ◌+◌, ◌-◌, ◌%◌, ◌<◌, ◌≤◌, eqb, List, [], ◌∷◌, ◌++◌, length, get_or, set, Option, Some, None, IsSome, IfSome, cond, sym, refl, ap, ◌∙◌, subst, ⊎_elim, arith, length-set, get_or-set_other, get_or-set_same, eq-eqb, ne_eqb}
-use Rattle.std.specs.List.{sum_by}
+use Rattle.std.proofs.Common.{◌≡◌, ◌≢◌, ℕ, ◌+◌, ◌%◌, ◌<◌, ◌≤◌, eqb, List, [], ◌∷◌, length, get_or, set, Option, Some, None, IsSome, IfSome, cond, sym, refl, ap, ◌∙◌, subst, ⊎_elim, arith, length-set, get_or-set_other, get_or-set_same, eq-eqb, ne_eqb}
 use mathlib.Core.List.{IsPrefix}
 use mathlib.Core.Logic.{dite}
 use mathlib.Core.Option as maybe
 use native.Mathlib.Decide.{ℕ_discrete}
 use lib.ListN.{get_elem?}
 use lib.Seq.{set-get_or}
-use Rattle.atomic_table.specs.Table.{State, Me, put_back, keeps, takes, gives, stepped, Allows, rest}
-use Rattle.atomic_table.proofs.Lists.{at_set, set_again, at_snoc, one_turn}
+use Rattle.atomic_table.specs.Table.{State, Me, put_back, keeps, takes, gives, stepped, Allows}
+use Rattle.atomic_table.proofs.Lists.{at_set, set_again, one_turn}
 use Rattle.turn_lock.specs.declared.rule.Stage.{Stage}
 use Rattle.turn_lock.specs.declared.rule.Stage.TheVariants.{Idle, Waiting, Serving}
 use Rattle.turn_lock.specs.declared.rule.View.{View}
 use Rattle.turn_lock.specs.Turns.{stands_in, FollowEach, once}
 use Rattle.turn_lock.specs.Kept.{busy, slot_of, StageKept, Knows, Kept}
-use Rattle.turn_lock.specs.Told.{ticket_of, word_of, at_stage, served, turned, Draws, Taken, Looks, Counts, Adds, in_slot, Ends}
+use Rattle.turn_lock.specs.Told.{ticket_of, word_of, at_stage, served, turned, Draws, Looks, Counts, Adds, in_slot, Ends}
 use Rattle.turn_lock.proofs.Begins.{prefix_self, prefix_trans, prefix_length}
 use Rattle.turn_lock.proofs.Stretches.{follow_each_further, follow_each_turn, stands_in_turn, once_more}
 use Rattle.turn_lock.proofs.Sums.{sum_set, sum_le}

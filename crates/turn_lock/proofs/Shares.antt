@@ -1,5 +1,5 @@
 -- How a lock is opened and closed, and how its seats are split and joined.
-use Rattle.std.proofs.Common.{◌≡◌, ◌≢◌, ℕ, zero, suc, ◌+◌, ◌-◌, ◌%◌, ◌<◌, ◌≤◌, leb, Bool, true, false, List, [], ◌∷◌, ◌++◌, length, get_or, set, Option, Some, None, IsSome, IfSome, cond, sym, refl, ap, ◌∙◌, subst, ⊎_elim, arith}
+use Rattle.std.proofs.Common.{◌≡◌, ◌≢◌, ℕ, zero, suc, ◌<◌, ◌≤◌, leb, Bool, true, false, List, [], ◌∷◌, length, set, Option, Some, None, IsSome, cond, sym, refl, ap, ◌∙◌, subst, ⊎_elim, arith}
 use Rattle.std.proofs.lemmas.Bool.Decides.{nat_tests}
 use Rattle.std.specs.List.{sum_by}
 use mathlib.Core.List.{IsPrefix}
@@ -8,17 +8,16 @@ use lib.ListN.{get_elem?}
 use lib.Seq.{set-get_or}
 use Rattle.atomic_table.specs.Table.{State, Me, keeps, opening, Final, Seen, Allows, Splits, Joins}
 use Rattle.atomic_table.proofs.Lists.{at_snoc, set_else}
-use Rattle.turn_lock.specs.declared.rule.Stage.{Stage}
-use Rattle.turn_lock.specs.declared.rule.Stage.TheVariants.{Idle, Waiting, Serving}
+use Rattle.turn_lock.specs.declared.rule.Stage.TheVariants.{Idle}
 use Rattle.turn_lock.specs.declared.rule.View.{View}
-use Rattle.turn_lock.specs.Turns.{stands_in, FollowEach, once, Covers}
+use Rattle.turn_lock.specs.Turns.{stands_in, FollowEach, once}
 use Rattle.turn_lock.specs.Kept.{busy, slot_of, StageKept, Knows, Kept, first_view, spent_view}
 use Rattle.turn_lock.specs.Told.{longer, shorter, less, given, both, Agrees}
 use Rattle.turn_lock.specs.Closes.{Closes, ClosesSlot}
 use Rattle.turn_lock.proofs.Begins.{prefix_self, prefix_none, prefix_shorter}
 use Rattle.turn_lock.proofs.Stretches.{stands_in_both, follow_each_both, once_none}
 use Rattle.turn_lock.proofs.Sums.{sum_set, sum_more, sum_one, sum_two, sum_only}
-use Rattle.turn_lock.proofs.Moves.{seats_stay, unmoved, at_home, good_at, busy_parts}
+use Rattle.turn_lock.proofs.Moves.{seats_stay, at_home, good_at, busy_parts}
 
 -- what holds of two things holds of either
 pick : {A : Type 0} (P : A → Type 0) (b : Bool) (x y : A) → P x → P y → P (cond b x y)

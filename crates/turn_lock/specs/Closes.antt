@@ -1,5 +1,5 @@
 -- What a lock gives back when it is closed.
-use Rattle.std.specs.Prelude.{List, ℕ, Option, Some, None, length}
+use Rattle.std.specs.Prelude.{List, Option, Some, None, length}
 use mathlib.Core.List.{IsPrefix}
 use Rattle.turn_lock.specs.declared.rule.View.{View}
 use Rattle.turn_lock.specs.Turns.{Covers}

@@ -4,11 +4,11 @@ use Rattle.std.specs.List.{sum_by}
 use mathlib.Core.List.{IsPrefix}
 use mathlib.Core.Option as maybe
 use lib.ListN.{get_elem?}
-use Rattle.atomic_table.specs.Table.{State, Me}
+use Rattle.atomic_table.specs.Table.{State}
 use Rattle.turn_lock.specs.declared.rule.Stage.{Stage}
 use Rattle.turn_lock.specs.declared.rule.Stage.TheVariants.{Idle, Waiting, Serving}
 use Rattle.turn_lock.specs.declared.rule.View.{View}
-use Rattle.turn_lock.specs.Turns.{Stretch, stands_in, FollowEach, once}
+use Rattle.turn_lock.specs.Turns.{stands_in, FollowEach, once}
 
 -- 1 for a seat that has a ticket
 abbrev pub busy : Stage → ℕ

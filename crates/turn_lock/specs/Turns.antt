@@ -1,5 +1,5 @@
 -- The turns of seats, as stretches of positions in a list.
-use Rattle.std.specs.Prelude.{◌≡◌, ℕ, ◌+◌, ◌<◌, ◌≤◌, List, [], ◌∷◌, ◌++◌, length, nat_le, nat_lt, ◌&&◌, if◌then◌else◌}
+use Rattle.std.specs.Prelude.{◌≡◌, ℕ, ◌+◌, ◌≤◌, List, [], ◌∷◌, ◌++◌, nat_le, nat_lt, ◌&&◌, if◌then◌else◌}
 
 -- a stretch: the positions from its first number up to below its second
 abbrev pub Stretch : Type 0

@@ -1,4 +1,4 @@
-use Rattle.std.proofs.Common.{◌≡◌, ◌∙◌, ℕ, List, [], ◌∷◌, Some, Option, sym, ap, arith}
+use Rattle.std.proofs.Common.{◌∙◌, ℕ, List, ◌∷◌, Some, Option, sym, ap, arith}
 use Rattle.atomic_table.specs.Table.{rest}
 use Rattle.turn_lock.proofs.Moves.{counts}
 use Rattle.turn_lock.proofs.turn.Turn.enter.Goals as goal

@@ -1,4 +1,4 @@
-use Rattle.std.proofs.Common.{◌≤◌, ◌<◌, ◌∙◌, length, sym, ap, subst, arith}
+use Rattle.std.proofs.Common.{◌≤◌, ◌∙◌, length, sym, ap, subst, arith}
 use Rattle.turn_lock.proofs.Shares.{joins, agrees, shorter_length}
 use Rattle.turn_lock.proofs.turn.Turn.join.Goals as goal
 

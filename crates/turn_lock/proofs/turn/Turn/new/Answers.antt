@@ -1,4 +1,4 @@
-use Rattle.std.proofs.Common.{◌≡◌, ◌∙◌, length, ◌∷◌, [], Some, sym, ap, subst, arith}
+use Rattle.std.proofs.Common.{◌∙◌, length, ◌∷◌, [], Some, sym, ap, subst, arith}
 use Rattle.atomic_table.specs.Table.{opening}
 use Rattle.turn_lock.specs.Kept.{Kept, first_view}
 use Rattle.turn_lock.proofs.Shares.{starts}
