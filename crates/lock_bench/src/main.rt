@@ -3,9 +3,11 @@
 //! Without arguments two threads add numbers under each lock, and the counts are printed.
 #![tactic(auto)]
 
-ghost use Rattle.std.specs.Prelude.{◌≡◌, ◌≤◌};
+ghost use Rattle.std.specs.Prelude.{◌≡◌, ◌≤◌, length};
+ghost use mathlib.Core.List.{IsPrefix};
 ghost use Rattle.std.specs.Thread.{IsSync};
-ghost use Rattle.turn_lock.specs.Lock.{IsSeatOf, parts_of};
+ghost use Rattle.turn_lock.specs.Lock.{IsSeatOf, all_parts, made, opened, parts_of, seen};
+ghost use Rattle.turn_lock.specs.Turns.{Covers};
 
 mod numbers;
 
@@ -106,6 +108,16 @@ fn spread_mutex<R: Threads + Wait + Sync>(
     );
 }
 
+// The numbers at the end: they begin with all that the seat has seen, and those behind the ones at the start are its turns.
+fn finish(lock: Turn<Numbers>, seat: Seat<Numbers>) -> Numbers
+    requires { IsSeatOf lock seat × (parts_of seat ≡ all_parts lock) }
+    ensures seen { IsPrefix (seen seat) result.items.items }
+    ensures turns { Covers (length (opened lock).items.items) (length result.items.items) (made seat) }
+{
+    let numbers = lock.close(seat);
+    numbers
+}
+
 // How long the threads take together under the lock with seats, and how many numbers were added.
 fn time_lock<R: Threads + Wait + Clock + Sync>(
     rt: &R,
@@ -121,7 +133,7 @@ fn time_lock<R: Threads + Wait + Clock + Sync>(
     };
     let start = Instant::now(rt);
     let seat = spread(rt, &lock, seat, threads, task);
-    let numbers = lock.close(seat);
+    let numbers = finish(lock, seat);
     Ok((start?.elapsed(rt)?, numbers.len()))
 }
 
