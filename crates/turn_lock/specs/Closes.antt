@@ -11,6 +11,7 @@ module _ {V E : Type 0} (entries : V → List E) (same : V → V → Type 0) (op
     pub charter : same opened value
     pub turns : Covers (length (entries opened)) (length (entries value)) v.made
 
+  -- so of what is found in the slot
   abbrev pub ClosesSlot : Option V → Type 0
   ClosesSlot None = ⊥
   ClosesSlot (Some value) = Closes value

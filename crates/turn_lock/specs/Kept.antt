@@ -22,6 +22,7 @@ slot_of None = maybe.none
 slot_of (Some v) = maybe.some (Some v)
 
 module _ {V E : Type 0} where
+  -- the view of the first seat
   abbrev pub first_view : (V → List E) → V → ℕ → View V E
   first_view entries v parts = record { opened = Some v; parts = parts; stage = Idle; seen = entries v; joined = []; made = [] ∷ [] }
 
@@ -44,6 +45,8 @@ module _ {V E : Type 0} where
     pub none : v.parts ≡ 0 → v.made ≡ []
     pub stage : StageKept log done drawn holder home seat v v.stage
 
+  -- the words, the slot and the views between two steps: `log` is the one list that every seat has seen a beginning of, and word 0 its length.
+  -- Tickets are counted without end, words 1 and 2 modulo 2^64. Each position behind the entries at the opening stands in one stretch of one seat
   pub record Kept (entries : V → List E) (same : V → V → Type 0) (opened : V) (parts : ℕ) (s : State (Option V) (View V E)) : Type 0 where
     pub log : List E
     pub done : ℕ

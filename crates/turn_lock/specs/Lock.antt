@@ -9,16 +9,19 @@ use Rattle.turn_lock.specs.Told.{IsServing}
 use Rattle.turn_lock.specs.Turns.{Stretch}
 
 module _ {V E : Type 0} where
-  -- the value that the lock was opened with, and its parts
+  -- the value that the lock was opened with
   abbrev pub opened : Turn V E → V
   opened lock = lock.table.shared.key.value.value
 
+  -- the parts that the lock was opened with
   abbrev pub all_parts : Turn V E → ℕ
   all_parts lock = lock.table.shared.key.parts
 
+  -- what a seat knows
   abbrev pub view : Seat V E → View V E
   view seat = seat.place.me.0
 
+  -- the parts of a seat
   abbrev pub parts_of : Seat V E → ℕ
   parts_of seat = seat.parts
 
@@ -30,13 +33,15 @@ module _ {V E : Type 0} where
   abbrev pub made : Seat V E → List (List Stretch)
   made seat = seat.place.me.0.made
 
-  -- the value as it was when the turn began, and the turns made before
+  -- the value as it was when the turn began
   abbrev pub entered : Held V E → V
   entered held = held.entered.value
 
+  -- the turns that the seat had made before, as `made` says
   abbrev pub made_before : Held V E → List (List Stretch)
   made_before held = held.place.me.0.made
 
+  -- the parts of the seat that holds the value
   abbrev pub parts_held : Held V E → ℕ
   parts_held held = held.parts
 

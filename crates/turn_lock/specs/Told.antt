@@ -7,6 +7,7 @@ use Rattle.turn_lock.specs.declared.rule.Stage.TheVariants.{Idle, Waiting, Servi
 use Rattle.turn_lock.specs.declared.rule.View.{View}
 use Rattle.turn_lock.specs.Turns.{with_turn}
 
+-- the ticket of a seat that has one
 abbrev pub ticket_of : Stage → ℕ
 ticket_of Idle = 0
 ticket_of (Waiting t) = t
@@ -20,21 +21,24 @@ word_of t = t % 18446744073709551616
 abbrev pub IsWaiting : ℕ → Stage → Type 0
 IsWaiting r st = (t : ℕ) × (st ≡ Waiting t) × (r ≡ word_of t)
 
+-- the turn of the seat has come
 abbrev pub IsServing : Stage → Type 0
 IsServing st = (t : ℕ) × (st ≡ Serving t)
 
--- the longer of two lists, and the other
+-- the longer of two lists
 abbrev pub longer : {E : Type 0} → List E → List E → List E
 longer xs ys = if nat_le (length ys) (length xs) then xs else ys
 
+-- the other of the two
 abbrev pub shorter : {E : Type 0} → List E → List E → List E
 shorter xs ys = if nat_le (length ys) (length xs) then ys else xs
 
 module _ {V E : Type 0} where
-  -- what is left of a seat's view once it gave parts away, and the view of the seat that has them
+  -- what is left of a seat's view once it gave parts away
   abbrev pub less : ℕ → View V E → View V E
   less parts v = record v { parts = v.parts - parts }
 
+  -- the view of the seat that was given them
   abbrev pub given : ℕ → View V E → View V E
   given parts v = record { opened = v.opened; parts = parts; stage = Idle; seen = v.seen; joined = []; made = [] ∷ [] }
 
@@ -42,6 +46,7 @@ module _ {V E : Type 0} where
   abbrev pub both : View V E → View V E → View V E
   both v w = record v { parts = v.parts + w.parts; seen = longer v.seen w.seen; joined = shorter v.seen w.seen; made = v.made ++ w.made }
 
+  -- the view at another stage
   abbrev pub at_stage : View V E → Stage → View V E
   at_stage v st = record v { stage = st }
 

@@ -20,8 +20,9 @@ pub struct Seat<V: Story> {
     pub(crate) place: Place<V>,
 }
 
-/// The value, for one turn. It ends in `Turn::leave`.
+/// The value, for one turn. It ends in `Turn::leave`, since it cannot be dropped.
 pub struct Held<V: Story> {
+    /// The value as it is now. Contracts name it as it was when the turn began by `entered`.
     pub value: V,
     pub(crate) entered: Snapshot<V>,
     pub(crate) count: u64,
@@ -30,6 +31,7 @@ pub struct Held<V: Story> {
 }
 
 impl<V: Story> Seat<V> {
+    // Its parts and its place at the table.
     pub(crate) fn take_apart(self) -> (u32, Place<V>)
         ensures { (result.0 ≡ self.parts) × (result.1 ≡ self.place) }
     {
