@@ -1,5 +1,5 @@
 pub mod Ticks
 pub mod States
 pub mod Orders
--- pub mod Readings
--- pub mod Ends
+pub mod Readings
+pub mod Ends
