@@ -1,5 +1,6 @@
 pub mod Ticks
 pub mod States
+pub mod Reorderings
 pub mod Orders
 pub mod Readings
 pub mod Ends

@@ -1,10 +1,10 @@
 -- Items that do not interfere commute.
 use Rattle.std.proofs.Common.{◌≡◌, refl, sym, ap, subst, ◌∙◌, ℕ, List, [], ◌∷◌, ◌++◌, Some, None}
 use Rattle.std.specs.Prelude.{Bool, true, false, not, ◌&&◌, ◌||◌, ◌==◌, Option, ℤ, ◌+ℤ◌, ◌-ℤ◌, if◌then◌else◌}
-use Rattle.std.specs.List.{list_any, list_all, flat_map}
+use Rattle.std.specs.List.{list_any, list_all}
 use Rattle.std.proofs.Math.IntN.{+ℤ_assoc, +ℤ_comm, neg_ℤ}
 use Rattle.std.proofs.lemmas.Bool.{and_parts, and_from, false≢true, eqb-true}
-use Rattle.std.proofs.lemmas.List.Folds.{list_all-append, list_any-append}
+use Rattle.std.specs.List.Sorted.{IsPermutation}
 use Rattle.tp_spec.specs.declared.expr.Expr.{Expr}
 use Rattle.tp_spec.specs.declared.plan.Item.{Item}
 use Rattle.tp_spec.specs.declared.problem.Cond.{Cond}
@@ -16,18 +16,8 @@ use Rattle.tp_spec.specs.Lists.{each_pair}
 use Rattle.tp_spec.specs.States.{State, value, of_both}
 use Rattle.tp_spec.specs.Items.{effects, conditions, effects_of, adds, deletes, change, changed, next, fits_new, after}
 use Rattle.tp_spec.specs.Interference.{collides, disturbs, touches, interfere}
-use Rattle.tp_laws.specs.Laws.{Reordering, none, same_first, exchanged, in_steps}
+use Rattle.tp_laws.proofs.Reorderings.{Reordering, none, same_first, exchanged, in_steps, reordering, all-parts, any-parts, pairs}
 use Rattle.tp_laws.proofs.States.{same_state}
-
-and-swap : (a b c : Bool) → (a && (b && c)) ≡ (b && (a && c))
-and-swap true b c = refl
-and-swap false true c = refl
-and-swap false false c = refl
-
-or-swap : (a b c : Bool) → (a || (b || c)) ≡ (b || (a || c))
-or-swap true true c = refl
-or-swap true false c = refl
-or-swap false b c = refl
 
 or-comm : (a b : Bool) → (a || b) ≡ (b || a)
 or-comm true true = refl
@@ -46,54 +36,6 @@ or-right false b h = h
 not-true : (b : Bool) → not b ≡ true → b ≡ false
 not-true true h = absurd (false≢true h)
 not-true false h = refl
-
--- which tests pass does not depend on the order
-pub all-reordered : {A : Type 0} (test : A → Bool) (xs ys : List A) → Reordering xs ys → list_all test xs ≡ list_all test ys
-all-reordered test _ _ none = refl
-all-reordered test _ _ (same_first x xs ys r) = ap (λ b. test x && b) (all-reordered test xs ys r)
-all-reordered test _ _ (exchanged x y xs) = and-swap (test x) (test y) (list_all test xs)
-all-reordered test _ _ (in_steps xs ys zs r q) = all-reordered test xs ys r ∙ all-reordered test ys zs q
-
-module _ {A B : Type 0} (test : B → Bool) (part : A → List B) where
-  pub all-parts-reordered : (xs ys : List A) → Reordering xs ys → list_all test (flat_map part xs) ≡ list_all test (flat_map part ys)
-  all-parts-reordered _ _ none = refl
-  all-parts-reordered _ _ (same_first x xs ys r) =
-      list_all-append test (part x) (flat_map part xs)
-      ∙ ap (λ b. list_all test (part x) && b) (all-parts-reordered xs ys r)
-      ∙ sym (list_all-append test (part x) (flat_map part ys))
-  all-parts-reordered _ _ (exchanged x y xs) =
-      two x y ∙ and-swap (list_all test (part x)) (list_all test (part y)) (list_all test (flat_map part xs)) ∙ sym (two y x)
-    where
-      two : (x y : A) → list_all test (part x ++ (part y ++ flat_map part xs)) ≡ (list_all test (part x) && (list_all test (part y) && list_all test (flat_map part xs)))
-      two x y = list_all-append test (part x) (part y ++ flat_map part xs) ∙ ap (λ b. list_all test (part x) && b) (list_all-append test (part y) (flat_map part xs))
-  all-parts-reordered _ _ (in_steps xs ys zs r q) = all-parts-reordered xs ys r ∙ all-parts-reordered ys zs q
-
-  pub any-parts-reordered : (xs ys : List A) → Reordering xs ys → list_any test (flat_map part xs) ≡ list_any test (flat_map part ys)
-  any-parts-reordered _ _ none = refl
-  any-parts-reordered _ _ (same_first x xs ys r) =
-      list_any-append test (part x) (flat_map part xs)
-      ∙ ap (λ b. list_any test (part x) || b) (any-parts-reordered xs ys r)
-      ∙ sym (list_any-append test (part x) (flat_map part ys))
-  any-parts-reordered _ _ (exchanged x y xs) =
-      two x y ∙ or-swap (list_any test (part x)) (list_any test (part y)) (list_any test (flat_map part xs)) ∙ sym (two y x)
-    where
-      two : (x y : A) → list_any test (part x ++ (part y ++ flat_map part xs)) ≡ (list_any test (part x) || (list_any test (part y) || list_any test (flat_map part xs)))
-      two x y = list_any-append test (part x) (part y ++ flat_map part xs) ∙ ap (λ b. list_any test (part x) || b) (list_any-append test (part y) (flat_map part xs))
-  any-parts-reordered _ _ (in_steps xs ys zs r q) = any-parts-reordered xs ys r ∙ any-parts-reordered ys zs q
-
--- what holds of each two members, in either order, holds of them reordered
-pub pairs-reordered : {A : Type 0} (related : A → A → Bool) → ((x y : A) → related x y ≡ related y x)
-    → (xs ys : List A) → Reordering xs ys → each_pair related xs ≡ each_pair related ys
-pairs-reordered related even _ _ none = refl
-pairs-reordered related even _ _ (same_first x xs ys r) = λ k. all-reordered (related x) xs ys r k && pairs-reordered related even xs ys r k
-pairs-reordered related even _ _ (exchanged x y xs) =
-    ap (λ b. (b && list_all (related x) xs) && (list_all (related y) xs && each_pair related xs)) (even x y)
-    ∙ turned (related y x) (list_all (related x) xs) (list_all (related y) xs) (each_pair related xs)
-  where
-    turned : (a b c d : Bool) → ((a && b) && (c && d)) ≡ ((a && c) && (b && d))
-    turned false b c d = refl
-    turned true b c d = and-swap b c d
-pairs-reordered related even _ _ (in_steps xs ys zs r q) = pairs-reordered related even xs ys r ∙ pairs-reordered related even ys zs q
 
 -- sums and differences in either order
 sums-commute : (v a b : ℤ) → (v +ℤ b) +ℤ a ≡ (v +ℤ a) +ℤ b
@@ -189,19 +131,20 @@ module _ (p : Problem) where
       two : (i j : Item) → changed s x (effects_of p (i ∷ j ∷ xs)) ≡ changes s x (effects p i) (changes s x (effects p j) (changed s x (effects_of p xs)))
       two i j = changed-append s x (effects p i) (effects_of p (j ∷ xs)) ∙ ap (changes s x (effects p i)) (changed-append s x (effects p j) (effects_of p xs))
   changed-reordered s x _ _ (in_steps xs ys zs r q) h =
-      changed-reordered s x xs ys r h ∙ changed-reordered s x ys zs q (sym (pairs-reordered stay_apart even xs ys r) ∙ h)
+      changed-reordered s x xs ys r h ∙ changed-reordered s x ys zs q (sym (pairs stay_apart even xs ys r) ∙ h)
     where
       even : (i j : Item) → stay_apart i j ≡ stay_apart j i
       even i j = ap not (or-comm (touches p i j) (touches p j i))
 
   next-reordered : (s : State) (xs ys : List Item) → Reordering xs ys → each_pair stay_apart xs ≡ true → next s (effects_of p xs) ≡ next s (effects_of p ys)
   next-reordered s xs ys r h = same_state (next s (effects_of p xs)) (next s (effects_of p ys))
-      (λ f k. (s.fact f && not (any-parts-reordered (deletes f) (effects p) xs ys r k)) || any-parts-reordered (adds f) (effects p) xs ys r k)
+      (λ f k. (s.fact f && not (any-parts (deletes f) (effects p) xs ys r k)) || any-parts (adds f) (effects p) xs ys r k)
       (λ x. changed-reordered s x xs ys r h)
 
-  pub after-reordered : (s : State) (xs ys : List Item) → Reordering xs ys → each_pair stay_apart xs ≡ true → after p s xs ≡ after p s ys
-  after-reordered s xs ys r h =
+  pub after-permuted : (s : State) (xs ys : List Item) → IsPermutation xs ys → each_pair stay_apart xs ≡ true → after p s xs ≡ after p s ys
+  after-permuted s xs ys permuted h =
+      let r : Reordering xs ys = reordering xs ys permuted in
       let same : next s (effects_of p xs) ≡ next s (effects_of p ys) = next-reordered s xs ys r h in
       let fit : list_all (fits_new (next s (effects_of p xs))) (effects_of p xs) ≡ list_all (fits_new (next s (effects_of p ys))) (effects_of p ys)
-      = ap (λ t. list_all (fits_new t) (effects_of p xs)) same ∙ all-parts-reordered (fits_new (next s (effects_of p ys))) (effects p) xs ys r in
+      = ap (λ t. list_all (fits_new t) (effects_of p xs)) same ∙ all-parts (fits_new (next s (effects_of p ys))) (effects p) xs ys r in
       λ k. if fit k then Some (same k) else None

@@ -1,6 +1,7 @@
 -- Laws over the planner's definitions.
 use Rattle.std.specs.Prelude.{◌≡◌, ℕ, zero, suc, ◌≤◌, not, List, [], ◌∷◌, ◌++◌, length, Some, IsTrue, if◌then◌else◌}
 use Rattle.std.specs.List.{last_or}
+use Rattle.std.specs.List.Sorted.{IsPermutation}
 use Rattle.tp_spec.specs.declared.plan.Item.{Item}
 use Rattle.tp_spec.specs.declared.plan.Limits.{Limits}
 use Rattle.tp_spec.specs.declared.plan.Plan.{Plan}
@@ -17,17 +18,10 @@ use Rattle.tp_spec.specs.Words.{spell, spelled, groups, progress, state_past}
 abbrev pub NoItemsChangeNothing : Type 0
 NoItemsChangeNothing = (p : Problem) (s : State) → after p s [] ≡ Some s
 
--- the same members in another order, which exchanges of neighbours reach
-pub data Reordering {A : Type 0} : List A → List A → Type 0 where
-  none : Reordering [] []
-  same_first : (x : A) (xs ys : List A) → Reordering xs ys → Reordering (x ∷ xs) (x ∷ ys)
-  exchanged : (x y : A) (xs : List A) → Reordering (x ∷ y ∷ xs) (y ∷ x ∷ xs)
-  in_steps : (xs ys zs : List A) → Reordering xs ys → Reordering ys zs → Reordering xs zs
-
 -- The order in which items are listed changes nothing where no two interfere.
 -- PDDL 2.1, section 6 (a happening is a set of actions).
 abbrev pub OrderChangesNothing : Type 0
-OrderChangesNothing = (p : Problem) (s : State) (xs ys : List Item) → Reordering xs ys
+OrderChangesNothing = (p : Problem) (s : State) (xs ys : List Item) → IsPermutation xs ys
     → IsTrue (each_pair (λ i j. not (interfere p i j)) xs) → after p s xs ≡ after p s ys
 
 -- the happenings of some acts before a tick, by their ticks
