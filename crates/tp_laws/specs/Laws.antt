@@ -1,6 +1,6 @@
 -- Laws over the planner's definitions.
 use Rattle.std.specs.Prelude.{◌≡◌, ℕ, zero, suc, ◌≤◌, not, List, [], ◌∷◌, ◌++◌, length, Some, IsTrue, if◌then◌else◌}
-use Rattle.std.specs.List.{last_or}
+use Rattle.std.specs.List.{last_or, list_all}
 use Rattle.std.specs.List.Sorted.{IsPermutation}
 use Rattle.tp_spec.specs.declared.plan.Item.{Item}
 use Rattle.tp_spec.specs.declared.plan.Limits.{Limits}
@@ -8,15 +8,20 @@ use Rattle.tp_spec.specs.declared.plan.Plan.{Plan}
 use Rattle.tp_spec.specs.declared.plan.Timed.{Timed}
 use Rattle.tp_spec.specs.declared.problem.Problem.{Problem}
 use Rattle.tp_spec.specs.Lists.{is_empty, each_pair}
-use Rattle.tp_spec.specs.States.{State}
+use Rattle.tp_spec.specs.States.{State, holds}
 use Rattle.tp_spec.specs.Items.{after}
 use Rattle.tp_spec.specs.Interference.{interfere}
-use Rattle.tp_spec.specs.Courses.{happening, state_before, Valid}
+use Rattle.tp_spec.specs.Courses.{happening, state_before, state_after, Valid}
 use Rattle.tp_spec.specs.Words.{spell, spelled, groups, progress, state_past}
 
 -- A set of no items changes nothing.
 abbrev pub NoItemsChangeNothing : Type 0
 NoItemsChangeNothing = (p : Problem) (s : State) → after p s [] ≡ Some s
+
+-- A tick that is no happening changes nothing, so the course of a plan needs its happenings alone.
+abbrev pub QuietTicksChangeNothing : Type 0
+QuietTicksChangeNothing = (p : Problem) (acts : List Timed) (t : ℕ) → IsTrue (is_empty (happening p acts t))
+    → state_after p acts t ≡ state_before p acts t
 
 -- The order in which items are listed changes nothing where no two interfere.
 -- PDDL 2.1, section 6 (a happening is a set of actions).
@@ -47,3 +52,7 @@ WordGivesEnd = (p : Problem) (l m : Limits) (a b : Plan) → Valid p l a → Val
 abbrev pub ReadsStates : Problem → Plan → Type 0
 ReadsStates p plan = (t : ℕ) → t ≤ suc plan.end
     → state_before p plan.acts t ≡ Some (state_past p (progress p (spelled p plan.acts t)))
+
+-- Reading a plan's whole word leads to a state in which the goal holds.
+abbrev pub ReadsToGoal : Problem → Plan → Type 0
+ReadsToGoal p plan = IsTrue (list_all (holds (state_past p (progress p (spell p plan)))) p.goal)

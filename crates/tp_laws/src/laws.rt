@@ -1,8 +1,9 @@
-ghost use Rattle.tp_laws.specs.Laws.{NoItemsChangeNothing, OrderChangesNothing, OfValid, EndsAtLastGroup, WordGivesEnd, ReadsStates};
+ghost use Rattle.tp_laws.specs.Laws.{NoItemsChangeNothing, QuietTicksChangeNothing, OrderChangesNothing, OfValid, EndsAtLastGroup, WordGivesEnd, ReadsStates, ReadsToGoal};
 
-/// A set of no items changes nothing.
-pub fn no_items()
-    ensures { NoItemsChangeNothing }
+/// A set of no items changes nothing, and so a tick that is no happening changes nothing either.
+pub fn nothing_happens()
+    ensures items { NoItemsChangeNothing }
+    ensures ticks { QuietTicksChangeNothing }
 {}
 
 /// The order in which a happening's items are listed changes nothing, since no two of them interfere.
@@ -19,7 +20,8 @@ pub fn end_of_word()
     ensures given { WordGivesEnd }
 {}
 
-/// Reading a valid plan's word leads through the states of its course.
+/// Reading a valid plan's word leads through the states of its course, up to one in which the goal holds.
 pub fn states_read()
-    ensures { OfValid ReadsStates }
+    ensures course { OfValid ReadsStates }
+    ensures goal { OfValid ReadsToGoal }
 {}

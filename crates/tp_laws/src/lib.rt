@@ -8,4 +8,4 @@ mod laws;
 pub use examples::{
     goal_at_start, invariants_given_together, spelled_words, states_after, unsafe_plans,
 };
-pub use laws::{end_of_word, no_items, order_of_items, states_read};
+pub use laws::{end_of_word, nothing_happens, order_of_items, states_read};
