@@ -1,11 +1,10 @@
 -- The end of a plan and the groups of its word.
-use Rattle.std.proofs.Common.{◌≡◌, refl, sym, ap, subst, ◌∙◌, ℕ, zero, suc, ◌+◌, ◌<◌, ◌≤◌, List, [], ◌∷◌, ◌++◌, map, length, Some, arith, length-append, append-nil, ◌⊎◌, inl, inr}
+use Rattle.std.proofs.Common.{◌≡◌, refl, sym, ap, subst, ◌∙◌, ℕ, zero, suc, ◌+◌, ◌<◌, ◌≤◌, List, [], ◌∷◌, ◌++◌, map, length, Some, arith, length-append, inl, inr}
 use Rattle.std.specs.Prelude.{Bool, true, false, not, ◌||◌, ◌==◌, Option, if◌then◌else◌}
 use Rattle.std.specs.List.{last_or}
-use Rattle.std.proofs.lemmas.Bool.{false≢true, eqb-true, cases_order}
+use Rattle.std.proofs.lemmas.Bool.{eqb-true, cases_order}
 use Rattle.tp_spec.specs.declared.plan.Item.{Item}
 use Rattle.tp_spec.specs.declared.plan.Mark.{Mark}
-use Rattle.tp_spec.specs.declared.plan.Plan.{Plan}
 use Rattle.tp_spec.specs.declared.plan.Timed.{Timed}
 use Rattle.tp_spec.specs.declared.problem.Problem.{Problem}
 use Rattle.tp_spec.specs.Lists.{is_empty}
@@ -59,9 +58,9 @@ groups-rise : (p : Problem) (acts : List Timed) (m n : ℕ) → m ≤ n → grou
 groups-rise p acts m zero h = let e : 0 ≡ m = omega (arith, h) in subst (λ k. groups (spelled p acts k) ≤ groups (spelled p acts zero)) e (omega arith)
 groups-rise p acts m (suc n) h = elim (le_suc m n h) [
   | inl b ↦
-    let ih = groups-rise p acts m n b in
-    let more = groups-append (spelled p acts n) (marked (happening p acts n)) in
-    omega arith
+      let ih = groups-rise p acts m n b in
+      let more = groups-append (spelled p acts n) (marked (happening p acts n)) in
+      omega arith
   | inr e ↦ subst (λ k. groups (spelled p acts k) ≤ groups (spelled p acts (suc n))) e (omega arith)
 ]
 

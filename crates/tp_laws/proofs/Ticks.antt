@@ -1,5 +1,5 @@
 -- What holds at each of some ticks holds up to the last one.
-use Rattle.std.proofs.Common.{◌≡◌, ℕ, zero, suc, ◌≤◌, arith, sym, subst, ◌⊎◌, inl, inr}
+use Rattle.std.proofs.Common.{◌≡◌, ℕ, zero, suc, ◌≤◌, arith, subst, ◌⊎◌, inl, inr}
 
 abbrev pub EachTick : (ℕ → Type 0) → ℕ → Type 0
 EachTick P zero = P 0

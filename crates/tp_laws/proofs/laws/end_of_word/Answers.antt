@@ -1,6 +1,5 @@
-use Rattle.std.proofs.Common.{◌≡◌, ap, sym, subst, ◌∙◌, suc, List}
+use Rattle.std.proofs.Common.{◌≡◌, ap, sym, subst, ◌∙◌, suc}
 use Rattle.std.specs.Prelude.{◌||◌, ◌==◌, not, true}
-use Rattle.tp_spec.specs.declared.plan.Timed.{Timed}
 use Rattle.tp_spec.specs.Lists.{is_empty}
 use Rattle.tp_spec.specs.Courses.{happening}
 use Rattle.tp_spec.specs.Words.{spelled}
