@@ -7,7 +7,6 @@ use Rattle.std.proofs.lemmas.Bool.{and_parts, and_from, false≢true, eqb-true}
 use Rattle.std.specs.List.Sorted.{IsPermutation}
 use Rattle.tp_spec.specs.declared.expr.Expr.{Expr}
 use Rattle.tp_spec.specs.declared.plan.Item.{Item}
-use Rattle.tp_spec.specs.declared.problem.Cond.{Cond}
 use Rattle.tp_spec.specs.declared.problem.Effect.{Effect}
 use Rattle.tp_spec.specs.declared.problem.Effect.TheVariants.{Add, Delete, Change}
 use Rattle.tp_spec.specs.declared.problem.How.TheVariants.{Increase, Decrease, Assign}
@@ -25,17 +24,28 @@ or-comm true false = refl
 or-comm false true = refl
 or-comm false false = refl
 
-or-left : (a b : Bool) → (a || b) ≡ false → a ≡ false
+pub or-none : (a b : Bool) → a ≡ false → b ≡ false → (a || b) ≡ false
+or-none a b h k = λ i. h i || k i
+
+pub or-left : (a b : Bool) → (a || b) ≡ false → a ≡ false
 or-left true b h = h
 or-left false b h = refl
 
-or-right : (a b : Bool) → (a || b) ≡ false → b ≡ false
+pub or-right : (a b : Bool) → (a || b) ≡ false → b ≡ false
 or-right true b h = absurd (false≢true (sym h))
 or-right false b h = h
 
-not-true : (b : Bool) → not b ≡ true → b ≡ false
+pub not-true : (b : Bool) → not b ≡ true → b ≡ false
 not-true true h = absurd (false≢true h)
 not-true false h = refl
+
+-- where no member passes either of two tests, none passes the one, and none the other
+pub any-split : {A : Type 0} (p q : A → Bool) (xs : List A) → list_any (λ x. p x || q x) xs ≡ false → (list_any p xs ≡ false) × (list_any q xs ≡ false)
+any-split p q [] h = (refl, refl)
+any-split p q (x ∷ xs) h =
+    let rest = any-split p q xs (or-right _ _ h) in
+    let one : (p x || q x) ≡ false = or-left _ _ h in
+    (or-none (p x) (list_any p xs) (or-left _ _ one) rest.0, or-none (q x) (list_any q xs) (or-right _ _ one) rest.1)
 
 -- sums and differences in either order
 sums-commute : (v a b : ℤ) → (v +ℤ b) +ℤ a ≡ (v +ℤ a) +ℤ b
@@ -93,11 +103,11 @@ module _ (s : State) (x : ℕ) where
   change-swap (Change Assign y a) (Change Assign z b) v h = if-swap (set_to a) (set_to b) (x == y) (x == z) v (λ j k. absurd (apart x y z _ true h refl j k))
 
   -- the part of some effects in the new value
-  abbrev changes : List Effect → Option ℤ → Option ℤ
+  abbrev pub changes : List Effect → Option ℤ → Option ℤ
   changes [] v = v
   changes (e ∷ es) v = change s x e (changes es v)
 
-  changed-append : (es fs : List Effect) → changed s x (es ++ fs) ≡ changes es (changed s x fs)
+  pub changed-append : (es fs : List Effect) → changed s x (es ++ fs) ≡ changes es (changed s x fs)
   changed-append [] fs = refl
   changed-append (e ∷ es) fs = ap (change s x e) (changed-append es fs)
 
@@ -105,14 +115,18 @@ module _ (s : State) (x : ℕ) where
   past-one e [] v h = refl
   past-one e (f ∷ fs) v h = change-swap e f (changes fs v) (or-left _ _ h) ∙ ap (change s x f) (past-one e fs v (or-right _ _ h))
 
-  past-all : (cs : List Cond) (es fs : List Effect) (v : Option ℤ)
-      → list_any (λ e. list_any (disturbs e) cs || list_any (collides e) fs) es ≡ false → changes es (changes fs v) ≡ changes fs (changes es v)
-  past-all cs [] fs v h = refl
-  past-all cs (e ∷ es) fs v h =
-      ap (change s x e) (past-all cs es fs v (or-right _ _ h)) ∙ past-one e fs (changes es v) (or-right _ _ (or-left _ _ h))
+  pub past-all : (es fs : List Effect) (v : Option ℤ) → list_any (λ e. list_any (collides e) fs) es ≡ false → changes es (changes fs v) ≡ changes fs (changes es v)
+  past-all [] fs v h = refl
+  past-all (e ∷ es) fs v h = ap (change s x e) (past-all es fs v (or-right _ _ h)) ∙ past-one e fs (changes es v) (or-left _ _ h)
+
+-- no effect of an item collides with one of the other
+pub collides-none : (p : Problem) (i j : Item) → interfere p i j ≡ false → list_any (λ e. list_any (collides e) (effects p j)) (effects p i) ≡ false
+collides-none p i j h =
+    (any-split (λ e. list_any (disturbs e) (conditions p j)) (λ e. list_any (collides e) (effects p j)) (effects p i)
+    (or-left (touches p i j) (touches p j i) h)).1
 
 module _ (p : Problem) where
-  abbrev stay_apart : Item → Item → Bool
+  abbrev pub stay_apart : Item → Item → Bool
   stay_apart i j = not (interfere p i j)
 
   changed-reordered : (s : State) (x : ℕ) (xs ys : List Item) → Reordering xs ys → each_pair stay_apart xs ≡ true
@@ -125,7 +139,7 @@ module _ (p : Problem) where
   changed-reordered s x _ _ (exchanged i j xs) h =
       let far : interfere p i j ≡ false = not-true _ (and_parts _ _ (and_parts _ _ h).0).0 in
       two i j
-      ∙ past-all s x (conditions p j) (effects p i) (effects p j) (changed s x (effects_of p xs)) (or-left (touches p i j) (touches p j i) far)
+      ∙ past-all s x (effects p i) (effects p j) (changed s x (effects_of p xs)) (collides-none p i j far)
       ∙ sym (two j i)
     where
       two : (i j : Item) → changed s x (effects_of p (i ∷ j ∷ xs)) ≡ changes s x (effects p i) (changes s x (effects p j) (changed s x (effects_of p xs)))

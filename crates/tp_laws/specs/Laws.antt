@@ -9,7 +9,7 @@ use Rattle.tp_spec.specs.declared.plan.Timed.{Timed}
 use Rattle.tp_spec.specs.declared.problem.Problem.{Problem}
 use Rattle.tp_spec.specs.Lists.{is_empty, each_pair}
 use Rattle.tp_spec.specs.States.{State, holds}
-use Rattle.tp_spec.specs.Items.{after}
+use Rattle.tp_spec.specs.Items.{effects, effects_of, next, after}
 use Rattle.tp_spec.specs.Interference.{interfere}
 use Rattle.tp_spec.specs.Courses.{happening, state_before, state_after, Valid}
 use Rattle.tp_spec.specs.Words.{spell, spelled, groups, progress, state_past}
@@ -28,6 +28,17 @@ QuietTicksChangeNothing = (p : Problem) (acts : List Timed) (t : ℕ) → IsTrue
 abbrev pub OrderChangesNothing : Type 0
 OrderChangesNothing = (p : Problem) (s : State) (xs ys : List Item) → IsPermutation xs ys
     → IsTrue (each_pair (λ i j. not (interfere p i j)) xs) → after p s xs ≡ after p s ys
+
+-- the state after items that are carried out one after another
+abbrev pub one_by_one : Problem → State → List Item → State
+one_by_one p s [] = s
+one_by_one p s (i ∷ rest) = one_by_one p (next s (effects p i)) rest
+
+-- Items of which no two interfere do together what they do one after another, if values between are not limited.
+-- PDDL 2.1, section 6 (simultaneous actions that do not interfere).
+abbrev pub TogetherAsOneByOne : Type 0
+TogetherAsOneByOne = (p : Problem) (s : State) (xs : List Item)
+    → IsTrue (each_pair (λ i j. not (interfere p i j)) xs) → one_by_one p s xs ≡ next s (effects_of p xs)
 
 -- the happenings of some acts before a tick, by their ticks
 abbrev pub happening_ticks : Problem → List Timed → ℕ → List ℕ
