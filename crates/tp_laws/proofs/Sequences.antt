@@ -16,7 +16,7 @@ use Rattle.tp_spec.specs.declared.problem.Problem.{Problem}
 use Rattle.tp_spec.specs.Lists.{each_pair}
 use Rattle.tp_spec.specs.States.{State, value, value_at, of_both}
 use Rattle.tp_spec.specs.Items.{effects, effects_of, adds, deletes, change, changed, next}
-use Rattle.tp_spec.specs.Interference.{reads, reads_at, collides, interfere}
+use Rattle.tp_spec.specs.Interference.{reads, reads_at, collides}
 use Rattle.tp_laws.specs.Laws.{one_by_one}
 use Rattle.tp_laws.proofs.States.{same_state, next-none}
 use Rattle.tp_laws.proofs.Orders.{or-none, or-left, or-right, not-true, any-split, changes, changed-append, past-all, collides-none, stay_apart}
