@@ -3,7 +3,9 @@
 #![tactic(auto)]
 
 mod examples;
+mod laws;
 
 pub use examples::{
     goal_at_start, invariants_given_together, spelled_words, states_after, unsafe_plans,
 };
+pub use laws::{end_of_word, nothing_happens, order_of_items, states_read};
