@@ -1,1 +1,4 @@
 pub mod Ticks
+pub mod EarlyPlain
+pub mod EarlyLists
+pub mod EarlyLive

@@ -2,8 +2,10 @@
 //! body: its contract is the law.
 #![tactic(auto)]
 
+mod early;
 mod examples;
 
+pub use early::live_words;
 pub use examples::{
     goal_at_start, invariants_given_together, spelled_words, states_after, unsafe_plans,
 };
