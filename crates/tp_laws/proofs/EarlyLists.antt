@@ -1,8 +1,8 @@
 -- Lists by recursion: members, and lists that rise.
-use Rattle.std.proofs.Common.{◌≡◌, refl, sym, ap, subst, ◌∙◌, ℕ, ◌+◌, ◌<◌, ◌≤◌, ◌==◌, Bool, true, false, ◌||◌, ◌&&◌, List, [], ◌∷◌, ◌++◌, ◌⊎◌, inl, inr, arith, nat_lt, cond}
-use Rattle.std.specs.List.{AllByRecursion as Each, filter}
-use Rattle.std.proofs.lemmas.Bool.{false≢true}
-use Rattle.tp_spec.specs.Lists.{IsIn}
+use Rattle.std.proofs.Common.{◌≡◌, refl, sym, ap, subst, ◌∙◌, ℕ, zero, suc, length, map, ◌+◌, ◌<◌, ◌≤◌, ◌==◌, Bool, true, false, ◌||◌, ◌&&◌, List, [], ◌∷◌, ◌++◌, ◌⊎◌, inl, inr, arith, nat_lt, cond}
+use Rattle.std.specs.List.{AllByRecursion as Each, filter, list_all, range_with_len}
+use Rattle.std.proofs.lemmas.Bool.{false≢true, and_parts, and_from, and_right, lt-ltb, ltb-true, eqb-true}
+use Rattle.tp_spec.specs.Lists.{IsIn, each_pair}
 
 -- what holds of each holds of one
 pub each-in : {A : Type 0} (P : A → Type 0) (xs : List A) (x : A) → Each P xs → IsIn x xs → P x
@@ -59,3 +59,94 @@ each-filter P test (x ∷ xs) h = elim (test x) as (λ b. Each P (cond b (x ∷ 
 pub rising-filter : {A : Type 0} (lt : A → A → Bool) (test : A → Bool) (xs : List A) → Rising lt xs → Rising lt (filter test xs)
 rising-filter lt test [] r = tt
 rising-filter lt test (x ∷ xs) r = elim (test x) as (λ b. Rising lt (cond b (x ∷ filter test xs) (filter test xs))) [ true ↦ (each-filter (λ y. lt x y ≡ true) test xs r.0, rising-filter lt test xs r.1) | false ↦ rising-filter lt test xs r.1 ]
+
+pub each-true : {A : Type 0} (test : A → Bool) (xs : List A) → list_all test xs ≡ true → Each (λ x. test x ≡ true) xs
+each-true test [] h = tt
+each-true test (x ∷ xs) h = ((and_parts _ _ h).0, each-true test xs (and_parts _ _ h).1)
+
+pub true-each : {A : Type 0} (test : A → Bool) (xs : List A) → Each (λ x. test x ≡ true) xs → list_all test xs ≡ true
+true-each test [] h = refl
+true-each test (x ∷ xs) h = and_from _ _ h.0 (true-each test xs h.1)
+
+-- a list that rises in one order, each two of which are related, is related in both ways
+pub pair-both : {A : Type 0} (lt related : A → A → Bool) (xs : List A) → Rising lt xs → each_pair related xs ≡ true → each_pair (λ x y. lt x y && related x y) xs ≡ true
+pair-both lt related [] r h = refl
+pair-both {A} lt related (x ∷ xs) r h = and_from _ _ (each_both xs r.0 (and_parts _ _ h).0) (pair-both lt related xs r.1 (and_parts _ _ h).1) where
+  each_both : (ys : List A) → Each (λ y. lt x y ≡ true) ys → list_all (related x) ys ≡ true → list_all (λ y. lt x y && related x y) ys ≡ true
+  each_both [] r h = refl
+  each_both (y ∷ ys) r h = and_from _ _ (and_from _ _ r.0 (and_parts _ _ h).0) (each_both ys r.1 (and_parts _ _ h).1)
+
+pub filter-map : {A B : Type 0} (test : B → Bool) (f : A → B) (xs : List A) → filter test (map f xs) ≡ map f (filter (λ x. test (f x)) xs)
+filter-map test f [] = refl
+filter-map test f (x ∷ xs) = elim (test (f x)) as (λ b. cond b (f x ∷ filter test (map f xs)) (filter test (map f xs)) ≡ map f (cond b (x ∷ filter (λ y. test (f y)) xs) (filter (λ y. test (f y)) xs))) [
+  | true ↦ ap (λ ys. f x ∷ ys) (filter-map test f xs)
+  | false ↦ filter-map test f xs
+]
+
+pub filter-none : {A : Type 0} (test : A → Bool) (xs : List A) → ((x : A) → test x ≡ false) → filter test xs ≡ []
+filter-none test [] h = refl
+filter-none test (x ∷ xs) h = ap (λ b. cond b (x ∷ filter test xs) (filter test xs)) (h x) ∙ filter-none test xs h
+
+pub filter-same : {A : Type 0} (f g : A → Bool) (xs : List A) → ((x : A) → f x ≡ g x) → filter f xs ≡ filter g xs
+filter-same f g xs h = λ i. filter (λ x. h x i) xs
+
+-- the numbers from a on rise
+pub range-rises : (a n : ℕ) → Rising nat_lt (range_with_len a n)
+range-rises a zero = tt
+range-rises a (suc n) = (above (a + 1) n (omega arith), range-rises (a + 1) n) where
+  above : (b n : ℕ) → a < b → Each (λ y. nat_lt a y ≡ true) (range_with_len b n)
+  above b zero h = tt
+  above b (suc n) h = (lt-ltb a b h, above (b + 1) n (omega (arith, h)))
+
+-- how many pass, test by test
+pub filter-both : {A : Type 0} (f g h : A → Bool) (xs : List A) → ((x : A) → cond (f x) 1 0 + cond (g x) 1 0 ≤ cond (h x) 1 0) → length (filter f xs) + length (filter g xs) ≤ length (filter h xs)
+filter-both f g h [] le = omega arith
+filter-both f g h (x ∷ xs) le = by_tests (filter-both f g h xs le) (f x) (g x) (h x) (le x) where
+  by_tests : length (filter f xs) + length (filter g xs) ≤ length (filter h xs) → (a b c : Bool) → cond a 1 0 + cond b 1 0 ≤ cond c 1 0 → length (cond a (x ∷ filter f xs) (filter f xs)) + length (cond b (x ∷ filter g xs) (filter g xs)) ≤ length (cond c (x ∷ filter h xs) (filter h xs))
+  by_tests ih true true true l = absurd (omega (arith, l))
+  by_tests ih true true false l = absurd (omega (arith, l))
+  by_tests ih true false true l = omega (arith, ih)
+  by_tests ih true false false l = absurd (omega (arith, l))
+  by_tests ih false true true l = omega (arith, ih)
+  by_tests ih false true false l = absurd (omega (arith, l))
+  by_tests ih false false true l = omega (arith, ih)
+  by_tests ih false false false l = ih
+
+pub filter-either : {A : Type 0} (f g : A → Bool) (xs : List A) → length (filter (λ x. f x || g x) xs) ≤ length (filter f xs) + length (filter g xs)
+filter-either f g [] = omega arith
+filter-either f g (x ∷ xs) = by_tests (filter-either f g xs) (f x) (g x) where
+  by_tests : length (filter (λ y. f y || g y) xs) ≤ length (filter f xs) + length (filter g xs) → (a b : Bool) → length (cond (a || b) (x ∷ filter (λ y. f y || g y) xs) (filter (λ y. f y || g y) xs)) ≤ length (cond a (x ∷ filter f xs) (filter f xs)) + length (cond b (x ∷ filter g xs) (filter g xs))
+  by_tests ih true true = omega (arith, ih)
+  by_tests ih true false = omega (arith, ih)
+  by_tests ih false true = omega (arith, ih)
+  by_tests ih false false = ih
+
+pub filter-fewer : {A : Type 0} (f : A → Bool) (xs : List A) → length (filter f xs) ≤ length xs
+filter-fewer f [] = omega arith
+filter-fewer f (x ∷ xs) = elim (f x) as (λ b. length (cond b (x ∷ filter f xs) (filter f xs)) ≤ length (x ∷ xs)) [
+  | true ↦ omega (arith, filter-fewer f xs)
+  | false ↦ omega (arith, filter-fewer f xs)
+]
+
+-- one number alone passes
+abbrev IsOne : (ℕ → Bool) → Type 0
+IsOne test = (y z : ℕ) → test y ≡ true → test z ≡ true → y ≡ z
+
+none-left : (test : ℕ → Bool) (x : ℕ) (xs : List ℕ) → Each (λ y. nat_lt x y ≡ true) xs → test x ≡ true → IsOne test → length (filter test xs) ≤ 0
+none-left test x [] r e one = omega arith
+none-left test x (y ∷ xs) r e one = by_test (none-left test x xs r.1 e one) (test y) refl where
+  by_test : length (filter test xs) ≤ 0 → (b : Bool) → test y ≡ b → length (cond b (y ∷ filter test xs) (filter test xs)) ≤ 0
+  by_test ih true f = absurd (omega (arith, one x y e f, ltb-true x y r.0))
+  by_test ih false f = ih
+
+at-most-one : (test : ℕ → Bool) (xs : List ℕ) → Rising nat_lt xs → IsOne test → length (filter test xs) ≤ 1
+at-most-one test [] r one = omega arith
+at-most-one test (x ∷ xs) r one = by_test (at-most-one test xs r.1 one) (test x) refl where
+  by_test : length (filter test xs) ≤ 1 → (b : Bool) → test x ≡ b → length (cond b (x ∷ filter test xs) (filter test xs)) ≤ 1
+  by_test ih true e = omega (arith, none-left test x xs r.0 e one)
+  by_test ih false e = ih
+
+-- a number stands at most once among the numbers from a on
+pub one-of-range : (b : ℕ) (c : Bool) (a n : ℕ) → length (filter (λ y. b == y && c) (range_with_len a n)) ≤ cond c 1 0
+one-of-range b false a n = subst (λ ys. length ys ≤ 0) (sym (filter-none _ (range_with_len a n) (λ y. and_right (b == y) false refl))) (omega arith)
+one-of-range b true a n = at-most-one (λ y. b == y && true) (range_with_len a n) (range-rises a n) (λ y z e f. omega (arith, eqb-true b y (and_parts _ _ e).0, eqb-true b z (and_parts _ _ f).0))

@@ -1,14 +1,29 @@
 ghost use Rattle.std.specs.Prelude.{◌↔◌, ℕ, List, []};
+ghost use Rattle.tp_spec.specs.declared.event.Event.TheVariants.{Expand};
 ghost use Rattle.tp_spec.specs.declared.plan.Limits.{Limits};
 ghost use Rattle.tp_spec.specs.declared.plan.Mark.{Mark};
+ghost use Rattle.tp_spec.specs.declared.plan.Plan.{Plan};
 ghost use Rattle.tp_spec.specs.declared.problem.Problem.{Problem};
+ghost use Rattle.tp_spec.specs.Courses.{Possible};
+ghost use Rattle.tp_spec.specs.Lists.{BeginsWith};
+ghost use Rattle.tp_spec.specs.Machine.{Machine, ExpandIsLegal, IsCovered, step};
 ghost use Rattle.tp_spec.specs.Schedules.{Live, IsLeast};
-ghost use Rattle.tp_spec.specs.Words.{Sound};
-ghost use Rattle.tp_laws.specs.Early.{IsPlain, IsShort, one_by_one};
+ghost use Rattle.tp_spec.specs.Words.{Sound, spell};
+ghost use Rattle.tp_laws.specs.Early.{IsEarly, IsPlain, IsShort, one_by_one};
 
 /// On a plain problem exactly the short sound words are live, and the least schedule of one has its groups at the ticks
 /// from 0 on.
 pub fn live_words()
     ensures live { (p : Problem) (l : Limits) (w : List Mark) → IsPlain p → Sound p w → Live p l 0 [] w ↔ IsShort p l w }
     ensures least { (p : Problem) (l : Limits) (w : List Mark) → IsPlain p → Live p l 0 [] w → IsLeast p l 0 [] w one_by_one }
+{}
+
+/// On a plain problem each front of the word of a possible plan is live.
+pub fn live_fronts()
+    ensures { (p : Problem) (l : Limits) (plan : Plan) (front : List Mark) → IsPlain p → Possible p l 0 [] plan → BeginsWith (spell p plan) front → Live p l 0 [] front }
+{}
+
+/// On a plain problem a possible plan whose word begins with the word of a node is covered after a legal Expand too.
+pub fn covered_after_expand()
+    ensures { (p : Problem) (l : Limits) (m : Machine) (actor id : ℕ) (marks : List Mark) (plan : Plan) → IsPlain p → IsEarly m → ExpandIsLegal p l m actor id marks → Possible p l m.now m.commits plan → IsCovered p m plan → IsCovered p (step l m (Expand actor id marks)) plan }
 {}
