@@ -1,8 +1,8 @@
 -- Lists by recursion: members, and lists that rise.
 use Rattle.std.proofs.Common.{◌≡◌, refl, sym, ap, subst, ◌∙◌, ℕ, zero, suc, length, map, ◌+◌, ◌<◌, ◌≤◌, ◌==◌, Bool, true, false, ◌||◌, ◌&&◌, List, [], ◌∷◌, ◌++◌, ◌⊎◌, inl, inr, arith, nat_lt, cond}
 use Rattle.std.specs.List.{AllByRecursion as Each, filter, list_all, range_with_len}
-use Rattle.std.proofs.lemmas.Bool.{false≢true, and_parts, and_from, and_right, lt-ltb, ltb-true, eqb-true}
-use Rattle.tp_spec.specs.Lists.{IsIn, each_pair}
+use Rattle.std.proofs.lemmas.Bool.{false≢true, and_parts, and_from, and_right, lt-ltb, ltb-true, ltb-false, eqb-true, eqb-false}
+use Rattle.tp_spec.specs.Lists.{IsIn, each_pair, each_next}
 
 -- what holds of each holds of one
 pub each-in : {A : Type 0} (P : A → Type 0) (xs : List A) (x : A) → Each P xs → IsIn x xs → P x
@@ -150,3 +150,54 @@ at-most-one test (x ∷ xs) r one = by_test (at-most-one test xs r.1 one) (test 
 pub one-of-range : (b : ℕ) (c : Bool) (a n : ℕ) → length (filter (λ y. b == y && c) (range_with_len a n)) ≤ cond c 1 0
 one-of-range b false a n = subst (λ ys. length ys ≤ 0) (sym (filter-none _ (range_with_len a n) (λ y. and_right (b == y) false refl))) (omega arith)
 one-of-range b true a n = at-most-one (λ y. b == y && true) (range_with_len a n) (range-rises a n) (λ y z e f. omega (arith, eqb-true b y (and_parts _ _ e).0, eqb-true b z (and_parts _ _ f).0))
+
+pub rising-push : {A : Type 0} (lt : A → A → Bool) (xs : List A) (y : A) → Rising lt xs → Each (λ x. lt x y ≡ true) xs → Rising lt (xs ++ y ∷ [])
+rising-push lt [] y r h = (tt, tt)
+rising-push lt (x ∷ xs) y r h = (each-push (λ z. lt x z ≡ true) xs y r.0 h.0, rising-push lt xs y r.1 h.1)
+
+-- each two are related where the order says so
+pub pair-from : {A : Type 0} (lt related : A → A → Bool) (P : A → Type 0) (xs : List A) → Rising lt xs → Each P xs → ((x y : A) → P x → lt x y ≡ true → related x y ≡ true) → each_pair related xs ≡ true
+pair-from lt related P [] r h f = refl
+pair-from {A} lt related P (x ∷ xs) r h f = and_from _ _ (true-each (related x) xs (each-map (λ y. lt x y ≡ true) (λ y. related x y ≡ true) xs (λ y k. f x y h.0 k) r.0)) (pair-from lt related P xs r.1 h.1 f)
+
+pub next-from : {A : Type 0} (lt related : A → A → Bool) (xs : List A) → Rising lt xs → ((x y : A) → lt x y ≡ true → related x y ≡ true) → each_next related xs ≡ true
+next-from lt related [] r f = refl
+next-from lt related (x ∷ []) r f = refl
+next-from lt related (x ∷ y ∷ xs) r f = and_from _ _ (f x y r.0.0) (next-from lt related (y ∷ xs) r.1 f)
+
+-- past a number that is above all that pass
+past-both : (f : ℕ → Bool) (a k n : ℕ) → a < k → Each (λ b. nat_lt b a ≡ true) (filter f (range_with_len k n)) → (filter f (range_with_len k n) ≡ []) × (filter (λ b. f b || a == b) (range_with_len k n) ≡ [])
+past-both f a k zero le h = (refl, refl)
+past-both f a k (suc n) le h = by_tests (λ r. past-both f a (k + 1) n (omega (arith, le)) r) (f k) (a == k) refl h where
+  rest : List ℕ
+  rest = range_with_len (k + 1) n
+
+  by_tests : (Each (λ b. nat_lt b a ≡ true) (filter f rest) → (filter f rest ≡ []) × (filter (λ b. f b || a == b) rest ≡ []))
+      → (b c : Bool) → (a == k) ≡ c → Each (λ b. nat_lt b a ≡ true) (cond b (k ∷ filter f rest) (filter f rest))
+      → (cond b (k ∷ filter f rest) (filter f rest) ≡ []) × (cond (b || c) (k ∷ filter (λ b. f b || a == b) rest) (filter (λ b. f b || a == b) rest) ≡ [])
+  by_tests ih true c e h = absurd (omega (arith, le, ltb-true k a h.0))
+  by_tests ih false true e h = absurd (omega (arith, le, eqb-true a k e))
+  by_tests ih false false e h = ih h
+
+-- one number more that is above all that pass stands behind them
+pub filter-insert : (f : ℕ → Bool) (a k n : ℕ) → k ≤ a → a < k + n → Each (λ b. nat_lt b a ≡ true) (filter f (range_with_len k n)) → filter (λ b. f b || a == b) (range_with_len k n) ≡ filter f (range_with_len k n) ++ a ∷ []
+filter-insert f a k zero le lt h = absurd (omega (arith, le, lt))
+filter-insert f a k (suc n) le lt h = by_tests (λ b r. filter-insert f a (k + 1) n b (omega (arith, lt)) r) (f k) (a == k) refl h where
+  rest : List ℕ
+  rest = range_with_len (k + 1) n
+
+  by_tests : (k + 1 ≤ a → Each (λ b. nat_lt b a ≡ true) (filter f rest) → filter (λ b. f b || a == b) rest ≡ filter f rest ++ a ∷ [])
+      → (b c : Bool) → (a == k) ≡ c → Each (λ b. nat_lt b a ≡ true) (cond b (k ∷ filter f rest) (filter f rest))
+      → cond (b || c) (k ∷ filter (λ b. f b || a == b) rest) (filter (λ b. f b || a == b) rest) ≡ cond b (k ∷ filter f rest) (filter f rest) ++ a ∷ []
+  by_tests ih true true e h = absurd (omega (arith, eqb-true a k e, ltb-true k a h.0))
+  by_tests ih true false e h = ap (λ ys. k ∷ ys) (ih (omega (arith, ltb-true k a h.0)) h.1)
+  by_tests ih false true e h =
+      let same : a ≡ k = eqb-true a k e in
+      let both = past-both f a (k + 1) n (omega (arith, same)) h in
+      (λ i. sym same i ∷ both.1 i) ∙ ap (λ ys. ys ++ a ∷ []) (sym both.0)
+  by_tests ih false false e h =
+      let other : k + 1 ≤ a = elim (nat_lt k a) as (λ b. nat_lt k a ≡ b → k + 1 ≤ a) [
+        | true ↦ λ q. omega (arith, ltb-true k a q)
+        | false ↦ λ q. absurd (eqb-false a k e (omega (arith, le, ltb-false k a q)))
+      ] refl in
+      ih other h

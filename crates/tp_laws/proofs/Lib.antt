@@ -6,3 +6,5 @@ pub mod EarlyStarts
 pub mod EarlyReading
 pub mod EarlyFronts
 pub mod EarlyCover
+pub mod EarlyTold
+pub mod EarlyPlans

@@ -1,4 +1,4 @@
-ghost use Rattle.std.specs.Prelude.{◌↔◌, ℕ, List, []};
+ghost use Rattle.std.specs.Prelude.{◌≡◌, ◌↔◌, ℕ, List, []};
 ghost use Rattle.tp_spec.specs.declared.event.Event.TheVariants.{Expand};
 ghost use Rattle.tp_spec.specs.declared.plan.Limits.{Limits};
 ghost use Rattle.tp_spec.specs.declared.plan.Mark.{Mark};
@@ -6,8 +6,8 @@ ghost use Rattle.tp_spec.specs.declared.plan.Plan.{Plan};
 ghost use Rattle.tp_spec.specs.declared.problem.Problem.{Problem};
 ghost use Rattle.tp_spec.specs.Courses.{Possible};
 ghost use Rattle.tp_spec.specs.Lists.{BeginsWith};
-ghost use Rattle.tp_spec.specs.Machine.{Machine, ExpandIsLegal, IsCovered, step};
-ghost use Rattle.tp_spec.specs.Schedules.{Live, IsLeast};
+ghost use Rattle.tp_spec.specs.Machine.{Machine, ExpandIsLegal, IsCovered, rank, step};
+ghost use Rattle.tp_spec.specs.Schedules.{Live, IsLeast, plan_of};
 ghost use Rattle.tp_spec.specs.Words.{Sound, spell};
 ghost use Rattle.tp_laws.specs.Early.{IsEarly, IsPlain, IsShort, one_by_one};
 
@@ -26,4 +26,11 @@ pub fn live_fronts()
 /// On a plain problem a possible plan whose word begins with the word of a node is covered after a legal Expand too.
 pub fn covered_after_expand()
     ensures { (p : Problem) (l : Limits) (m : Machine) (actor id : ℕ) (marks : List Mark) (plan : Plan) → IsPlain p → IsEarly m → ExpandIsLegal p l m actor id marks → Possible p l m.now m.commits plan → IsCovered p m plan → IsCovered p (step l m (Expand actor id marks)) plan }
+{}
+
+/// On a plain problem a live word after which every goal part holds is the word of a possible plan, which starts the
+/// acts of group k at tick k.
+pub fn plans_of_live_words()
+    ensures possible { (p : Problem) (l : Limits) (w : List Mark) → IsPlain p → Live p l 0 [] w → rank p w ≡ 0 → Possible p l 0 [] (plan_of p w one_by_one) }
+    ensures spelled { (p : Problem) (l : Limits) (w : List Mark) → IsPlain p → Live p l 0 [] w → spell p (plan_of p w one_by_one) ≡ w }
 {}
