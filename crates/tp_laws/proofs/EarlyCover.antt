@@ -14,16 +14,7 @@ use Rattle.tp_spec.specs.Words.{spell}
 use Rattle.tp_spec.specs.Schedules.{Live}
 use Rattle.tp_spec.specs.Machine.{Machine, Node, without, children, word_of, step, IsCovered, ExpandIsLegal}
 use Rattle.tp_laws.specs.Early.{IsEarly}
-use Rattle.tp_laws.proofs.EarlyLists.{each-in, each-true}
-
-in-left : {A : Type 0} (x : A) (xs ys : List A) → IsIn x xs → IsIn x (xs ++ ys)
-in-left x [] ys h = absurd h
-in-left x (y ∷ xs) ys (inl e) = inl e
-in-left x (y ∷ xs) ys (inr h) = inr (in-left x xs ys h)
-
-in-right : {A : Type 0} (x : A) (xs ys : List A) → IsIn x ys → IsIn x (xs ++ ys)
-in-right x [] ys h = h
-in-right x (y ∷ xs) ys h = inr (in-right x xs ys h)
+use Rattle.tp_laws.proofs.EarlyLists.{each-in, each-true, in-left, in-right}
 
 -- a node of another id stays
 in-without : (id : ℕ) (n : Node) (ns : List Node) → (n.id == id) ≡ false → IsIn n ns → IsIn n (without id ns)

@@ -18,38 +18,23 @@ pub each-push : {A : Type 0} (P : A → Type 0) (xs : List A) (x : A) → Each P
 each-push P [] x h k = (k, tt)
 each-push P (y ∷ xs) x h k = (h.0, each-push P xs x h.1 k)
 
+pub map-same : {A B : Type 0} (f g : A → B) (xs : List A) → Each (λ x. f x ≡ g x) xs → map f xs ≡ map g xs
+map-same f g [] h = refl
+map-same f g (x ∷ xs) h = λ i. h.0 i ∷ map-same f g xs h.1 i
+
+pub in-left : {A : Type 0} (x : A) (xs ys : List A) → IsIn x xs → IsIn x (xs ++ ys)
+in-left x [] ys h = absurd h
+in-left x (y ∷ xs) ys (inl e) = inl e
+in-left x (y ∷ xs) ys (inr h) = inr (in-left x xs ys h)
+
+pub in-right : {A : Type 0} (x : A) (xs ys : List A) → IsIn x ys → IsIn x (xs ++ ys)
+in-right x [] ys h = h
+in-right x (y ∷ xs) ys h = inr (in-right x xs ys h)
+
 -- each element is below those behind it
 abbrev pub Rising : {A : Type 0} → (A → A → Bool) → List A → Type 0
 Rising lt [] = Unit {0}
 Rising lt (x ∷ xs) = Each (λ y. lt x y ≡ true) xs × Rising lt xs
-
-module _ {A : Type 0} (lt : A → A → Bool) (never : (x : A) → lt x x ≡ false) (one_way : (x y : A) → lt x y ≡ true → lt y x ≡ true → ⊥) where
-  -- an element is not among those that it is below
-  not-behind : (x : A) (xs : List A) → Each (λ y. lt x y ≡ true) xs → IsIn x xs → ⊥
-  not-behind x xs h i = false≢true (sym (never x) ∙ each-in (λ y. lt x y ≡ true) xs x h i)
-
-  same_head : (x y : A) (xs ys : List A) → Rising lt (x ∷ xs) → Rising lt (y ∷ ys) → IsIn x (y ∷ ys) → IsIn y (x ∷ xs) → x ≡ y
-  same_head x y xs ys r s (inl e) k = sym e
-  same_head x y xs ys r s (inr i) (inl e) = e
-  same_head x y xs ys r s (inr i) (inr k) = absurd (one_way x y (each-in (λ z. lt x z ≡ true) xs y r.0 k) (each-in (λ z. lt y z ≡ true) ys x s.0 i))
-
-  same_tail : (x : A) (xs ys : List A) → Each (λ z. lt x z ≡ true) xs → ((z : A) → IsIn z (x ∷ xs) → IsIn z (x ∷ ys)) → (z : A) → IsIn z xs → IsIn z ys
-  same_tail x xs ys r f z i = by_place (f z (inr i)) where
-    by_place : IsIn z (x ∷ ys) → IsIn z ys
-    by_place (inl e) = absurd (not-behind x xs r (subst (λ w. IsIn w xs) (sym e) i))
-    by_place (inr k) = k
-
-  -- two rising lists with the same members are one
-  pub same-rising : (xs ys : List A) → Rising lt xs → Rising lt ys → ((z : A) → IsIn z xs → IsIn z ys) → ((z : A) → IsIn z ys → IsIn z xs) → xs ≡ ys
-  same-rising [] [] r s f g = refl
-  same-rising [] (y ∷ ys) r s f g = absurd (g y (inl refl))
-  same-rising (x ∷ xs) [] r s f g = absurd (f x (inl refl))
-  same-rising (x ∷ xs) (y ∷ ys) r s f g =
-      let e : x ≡ y = same_head x y xs ys r s (f x (inl refl)) (g y (inl refl)) in
-      let s' : Each (λ z. lt x z ≡ true) ys = subst (λ w. Each (λ z. lt w z ≡ true) ys) (sym e) s.0 in
-      let f' : (z : A) → IsIn z (x ∷ xs) → IsIn z (x ∷ ys) = λ z i. subst (λ w. IsIn z (w ∷ ys)) (sym e) (f z i) in
-      let g' : (z : A) → IsIn z (x ∷ ys) → IsIn z (x ∷ xs) = λ z i. g z (subst (λ w. IsIn z (w ∷ ys)) e i) in
-      λ k. e k ∷ same-rising xs ys r.1 s.1 (same_tail x xs ys r.0 f') (same_tail x ys xs s' g') k
 
 -- a filter of a rising list rises
 pub each-filter : {A : Type 0} (P : A → Type 0) (test : A → Bool) (xs : List A) → Each P xs → Each P (filter test xs)

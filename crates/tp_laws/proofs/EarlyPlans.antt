@@ -19,12 +19,13 @@ use Rattle.tp_spec.specs.States.{State, holds}
 use Rattle.tp_spec.specs.Items.{own, after, has_after, next, effects_of, invariants, item_before}
 use Rattle.tp_spec.specs.Interference.{interfere}
 use Rattle.tp_spec.specs.Courses.{Valid, Possible, Passes, happening, state_before, keeps_invariants, runs_at, act_before, in_range}
-use Rattle.tp_spec.specs.Words.{Progress, Sound, Follow, progress, state_past, at_start, groups, acts_of, marked, spelled, spell}
-use Rattle.tp_spec.specs.Schedules.{plan_of, timed_act, last_tick}
+use Rattle.tp_spec.specs.Words.{Act, Progress, Sound, Follow, progress, state_past, at_start, groups, acts_of, marked, spelled, spell}
+use Rattle.tp_spec.specs.Schedules.{Schedule, IsLeast, finish, plan_of, timed_act, last_tick}
 use Rattle.tp_spec.specs.Machine.{rank}
 use Rattle.tp_laws.specs.Early.{IsShort, one_by_one}
 use Rattle.tp_laws.proofs.EarlyPlain.{IsInstant}
-use Rattle.tp_laws.proofs.EarlyLists.{each-map, true-each, pair-from, next-from}
+use Rattle.tp_laws.proofs.EarlyLists.{each-map, map-same, true-each, pair-from, next-from}
+use Rattle.tp_laws.proofs.EarlyLive.{Short, acts-short, finish-short, no-earlier, least-short}
 use Rattle.tp_laws.proofs.EarlyReading.{good, chain-to, marked-follow, spelled-front, before-spelled, follow-front, follow-back}
 use Rattle.tp_laws.proofs.EarlyTold.{Tells, Placed, earlier, told, none-behind, told-sound}
 
@@ -178,3 +179,23 @@ module _ (p : Problem) (plain : IsInstant p) where
         any_time : (xs : List Timed) → list_all (λ x. nat_le 0 x.start && true) xs ≡ true
         any_time [] = refl
         any_time (x ∷ xs) = and_from _ _ (and_from _ _ (le-leb 0 x.start (omega arith)) refl) (any_time xs)
+
+    -- the least schedule gives the same plan, whatever it says of groups that are not there
+    same-tick : (x : Schedule) → IsLeast p l 0 [] w x → (g : ℕ) → g < groups w → x.tick g ≡ g
+    same-tick x least g b = omega (arith, (least.first one_by_one (least-short p plain l w sound x least.is).is).ticks g b, no-earlier p plain l w sound x least.is g b)
+
+    same-act : (x : Schedule) → IsLeast p l 0 [] w x → (a : Act) → Short p plain (groups w) a → timed_act x a ≡ timed_act one_by_one a
+    same-act x least a short =
+        let start : x.tick a.opens ≡ a.opens = same-tick x least a.opens short.opened in
+        let length : finish x a - x.tick a.opens ≡ finish one_by_one a - a.opens = omega (arith, finish-short p plain x (groups w) a short, finish-short p plain one_by_one (groups w) a short) in
+        λ i. record { action = a.action; start = start i; length = length i }
+
+    same-end : (x : Schedule) → IsLeast p l 0 [] w x → (n : ℕ) → groups w ≡ n → last_tick x n ≡ last_tick one_by_one n
+    same-end x least zero e = refl
+    same-end x least (suc g) e = same-tick x least g (omega (arith, e))
+
+    pub same-plan : (x : Schedule) → IsLeast p l 0 [] w x → plan_of p w x ≡ plan_of p w one_by_one
+    same-plan x least =
+        let acts : map (timed_act x) (acts_of p w) ≡ map (timed_act one_by_one) (acts_of p w) = map-same (timed_act x) (timed_act one_by_one) (acts_of p w) (each-map (Short p plain (groups w)) (λ a. timed_act x a ≡ timed_act one_by_one a) (acts_of p w) (same-act x least) (acts-short p plain w sound)) in
+        let end : last_tick x (groups w) ≡ last_tick one_by_one (groups w) = same-end x least (groups w) refl in
+        λ i. record { acts = acts i; end = end i }

@@ -17,7 +17,7 @@ use Rattle.tp_spec.specs.Words.{Progress, Act, Sound, Follow, may_follow, may_jo
 use Rattle.tp_spec.specs.Schedules.{timed_act, finish}
 use Rattle.tp_laws.specs.Early.{one_by_one}
 use Rattle.tp_laws.proofs.EarlyPlain.{IsInstant}
-use Rattle.tp_laws.proofs.EarlyLists.{Rising, each-in, each-map, each-push, each-true, rising-push, filter-same, filter-none, filter-insert}
+use Rattle.tp_laws.proofs.EarlyLists.{Rising, in-left, in-right, each-in, each-map, each-push, each-true, rising-push, filter-same, filter-none, filter-insert}
 use Rattle.tp_laws.proofs.EarlyStarts.{starts_at, started, happening-starts}
 use Rattle.tp_laws.proofs.EarlyLive.{Quiet, quiet-past, only_starts}
 use Rattle.tp_laws.proofs.EarlyReading.{read-append, grown}
@@ -48,15 +48,6 @@ pub record Tells (p : Problem) (w : List Mark) (group : List Item) (n : ℕ) (ac
   pub opened : is_empty group ≡ false → 0 < n
   pub placed : Each (Placed p n group) acts
   pub rises : Rising earlier acts
-
-in-front : {A : Type 0} (x : A) (xs ys : List A) → IsIn x xs → IsIn x (xs ++ ys)
-in-front x [] ys h = absurd h
-in-front x (y ∷ xs) ys (inl e) = inl e
-in-front x (y ∷ xs) ys (inr h) = inr (in-front x xs ys h)
-
-in-last : {A : Type 0} (xs : List A) (x : A) → IsIn x (xs ++ x ∷ [])
-in-last [] x = inl refl
-in-last (y ∷ xs) x = inr (in-last xs x)
 
 marked-more : (is : List Item) (i : Item) → is_empty is ≡ false → marked (is ++ i ∷ []) ≡ marked is ++ joining i ∷ []
 marked-more [] i h = absurd (false≢true (sym h))
@@ -185,13 +176,13 @@ module _ (p : Problem) (plain : IsInstant p) where
         opened = λ e. omega arith;
         placed = each-push (Placed p (suc g) (group ++ Start a ∷ [])) acts (instant_act a g)
           (each-map (Placed p (suc g) group) (Placed p (suc g) (group ++ Start a ∷ [])) acts (λ x h. record { at_once = h.at_once; ranged = h.ranged; in_groups = still x h.in_groups }) t.placed)
-          (record { at_once = refl; ranged = plain.at_once a there; in_groups = inr (refl, in-last group (Start a)) });
+          (record { at_once = refl; ranged = plain.at_once a there; in_groups = inr (refl, in-right (Start a) group (Start a ∷ []) (inl refl)) });
         rises = rising-push earlier acts (instant_act a g) t.rises (each-map (Placed p (suc g) group) (λ x. earlier x (instant_act a g) ≡ true) acts (λ x h. before_last x all_before h.in_groups) t.placed);
       }
     where
       still : (x : Timed) → (suc x.start < suc g) ⊎ ((suc x.start ≡ suc g) × IsIn (Start x.action) group) → (suc x.start < suc g) ⊎ ((suc x.start ≡ suc g) × IsIn (Start x.action) (group ++ Start a ∷ []))
       still x (inl b) = inl b
-      still x (inr e) = inr (e.0, in-front (Start x.action) group (Start a ∷ []) e.1)
+      still x (inr e) = inr (e.0, in-left (Start x.action) group (Start a ∷ []) e.1)
 
       before_last : (x : Timed) → Each (λ j. item_before j (Start a) ≡ true) group → (suc x.start < suc g) ⊎ ((suc x.start ≡ suc g) × IsIn (Start x.action) group) → earlier x (instant_act a g) ≡ true
       before_last x all (inl b) = by_start x (instant_act a g) (omega (arith, b))

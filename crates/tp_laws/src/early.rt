@@ -7,7 +7,7 @@ ghost use Rattle.tp_spec.specs.declared.problem.Problem.{Problem};
 ghost use Rattle.tp_spec.specs.Courses.{Possible};
 ghost use Rattle.tp_spec.specs.Lists.{BeginsWith};
 ghost use Rattle.tp_spec.specs.Machine.{Machine, ExpandIsLegal, IsCovered, rank, step};
-ghost use Rattle.tp_spec.specs.Schedules.{Live, IsLeast, plan_of};
+ghost use Rattle.tp_spec.specs.Schedules.{Schedule, Live, IsLeast, plan_of};
 ghost use Rattle.tp_spec.specs.Words.{Sound, spell};
 ghost use Rattle.tp_laws.specs.Early.{IsEarly, IsPlain, IsShort, one_by_one};
 
@@ -28,9 +28,9 @@ pub fn covered_after_expand()
     ensures { (p : Problem) (l : Limits) (m : Machine) (actor id : ℕ) (marks : List Mark) (plan : Plan) → IsPlain p → IsEarly m → ExpandIsLegal p l m actor id marks → Possible p l m.now m.commits plan → IsCovered p m plan → IsCovered p (step l m (Expand actor id marks)) plan }
 {}
 
-/// On a plain problem a live word after which every goal part holds is the word of a possible plan, which starts the
-/// acts of group k at tick k.
+/// On a plain problem the least schedule of a sound word gives a plan with this word. The plan is possible where every
+/// goal part holds after the word.
 pub fn plans_of_live_words()
-    ensures possible { (p : Problem) (l : Limits) (w : List Mark) → IsPlain p → Live p l 0 [] w → rank p w ≡ 0 → Possible p l 0 [] (plan_of p w one_by_one) }
-    ensures spelled { (p : Problem) (l : Limits) (w : List Mark) → IsPlain p → Live p l 0 [] w → spell p (plan_of p w one_by_one) ≡ w }
+    ensures spelled { (p : Problem) (l : Limits) (w : List Mark) (x : Schedule) → IsPlain p → Sound p w → IsLeast p l 0 [] w x → spell p (plan_of p w x) ≡ w }
+    ensures possible { (p : Problem) (l : Limits) (w : List Mark) (x : Schedule) → IsPlain p → Sound p w → IsLeast p l 0 [] w x → rank p w ≡ 0 → Possible p l 0 [] (plan_of p w x) }
 {}
