@@ -5,3 +5,12 @@ pub mod Orders
 pub mod Sequences
 pub mod Readings
 pub mod Ends
+pub mod EarlyPlain
+pub mod EarlyLists
+pub mod EarlyLive
+pub mod EarlyStarts
+pub mod EarlyReading
+pub mod EarlyFronts
+pub mod EarlyCover
+pub mod EarlyTold
+pub mod EarlyPlans
