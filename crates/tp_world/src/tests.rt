@@ -1,9 +1,8 @@
 //! The traits used through their bounds, the fakes through the traits, and the adapters on the system.
-ghost use Rattle.std.specs.Prelude.{◌≡◌, ℕ, List, ◌++◌, ◌<◌, Some, IfSome, IfOk, OnOk, length};
-ghost use Rattle.std.specs.List.{slice_get};
+ghost use Rattle.std.specs.Prelude.{◌≡◌, ℕ, List, ◌++◌, Some, IfSome, IfOk, OnOk, length};
 ghost use Rattle.std.specs.Io.KnownBytes.{Appends};
 ghost use Rattle.tp_world.specs.Counts.{Rose, count_after};
-ghost use Rattle.tp_world.specs.Readings.{reading_at, AreNext};
+ghost use Rattle.tp_world.specs.Readings.{AreNext};
 ghost use Rattle.tp_world.specs.Sinks.{AppendsFront};
 
 use crate::adapters::{DiskFiles, ElapsedClock, PauseGate, StdSink};
