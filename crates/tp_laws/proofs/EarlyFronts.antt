@@ -1,7 +1,7 @@
 -- Each front of the word of a possible plan is live.
-use Rattle.std.proofs.Common.{◌≡◌, refl, sym, ap, subst, ◌∙◌, ℕ, zero, suc, ◌+◌, ◌-◌, ◌<◌, ◌≤◌, ◌==◌, Bool, true, false, not, ◌&&◌, ◌||◌, cond, List, [], ◌∷◌, ◌++◌, map, length, Option, Some, None, arith, rules, IsTrue, IsSome, nat_lt, append_assoc, append-nil, slice_get}
-use Rattle.std.specs.List.{AllByRecursion as Each, list_any, list_all, filter, range_with_len}
-use Rattle.std.proofs.lemmas.Bool.{and_parts, and_from, false≢true, ltb-true, lt-ltb, eqb-true}
+use Rattle.std.proofs.Common.{◌≡◌, refl, sym, ap, subst, ◌∙◌, ℕ, zero, suc, ◌+◌, ◌-◌, ◌≤◌, ◌==◌, Bool, true, false, not, cond, List, [], ◌∷◌, ◌++◌, map, length, Option, Some, None, arith, IsSome, nat_lt}
+use Rattle.std.specs.List.{AllByRecursion as Each, list_all, filter, range_with_len}
+use Rattle.std.proofs.lemmas.Bool.{and_parts, lt-ltb}
 use Rattle.std.proofs.lemmas.Bool.Decides.{nat_tests}
 use Rattle.std.proofs.lemmas.List.{length-append, length-map}
 use Rattle.tp_spec.specs.declared.plan.Item.{Item}
@@ -11,12 +11,12 @@ use Rattle.tp_spec.specs.declared.plan.Mark.{Mark}
 use Rattle.tp_spec.specs.declared.plan.Plan.{Plan}
 use Rattle.tp_spec.specs.declared.plan.Timed.{Timed}
 use Rattle.tp_spec.specs.declared.problem.Problem.{Problem}
-use Rattle.tp_spec.specs.Lists.{BeginsWith, each_pair, some_and}
+use Rattle.tp_spec.specs.Lists.{BeginsWith, some_and}
 use Rattle.tp_spec.specs.States.{State}
 use Rattle.tp_spec.specs.Items.{own, item_before, is_durative}
 use Rattle.tp_spec.specs.Interference.{interfere}
 use Rattle.tp_spec.specs.Courses.{Valid, Possible, Passes, happening, state_before}
-use Rattle.tp_spec.specs.Words.{Act, Sound, Follow, at_start, groups, acts_of, acts_from, with_act, ended, marked, joining, spelled, spell}
+use Rattle.tp_spec.specs.Words.{Act, Sound, Follow, at_start, groups, acts_from, with_act, ended, marked, joining, spelled, spell}
 use Rattle.tp_spec.specs.Schedules.{Live}
 use Rattle.tp_laws.specs.Early.{IsShort, one_by_one}
 use Rattle.tp_laws.proofs.EarlyPlain.{IsInstant}

@@ -1,6 +1,6 @@
 -- A sound word of instant actions is live where its starts and its groups are few enough, and only there.
-use Rattle.std.proofs.Common.{◌≡◌, refl, sym, ap, subst, ◌∙◌, ℕ, zero, suc, ◌+◌, ◌-◌, ◌<◌, ◌≤◌, Bool, true, false, not, ◌&&◌, ◌||◌, cond, List, [], ◌∷◌, ◌++◌, length, Option, Some, None, arith, rules, IsTrue, nat_lt, IfSome, slice_get}
-use Rattle.std.specs.List.{AllByRecursion as Each, list_any, list_all}
+use Rattle.std.proofs.Common.{◌≡◌, refl, sym, ap, subst, ◌∙◌, ℕ, zero, suc, ◌+◌, ◌-◌, ◌<◌, ◌≤◌, Bool, true, false, not, ◌&&◌, ◌||◌, cond, List, [], ◌∷◌, length, Option, Some, None, arith, IsTrue, nat_lt, IfSome, slice_get}
+use Rattle.std.specs.List.{AllByRecursion as Each, list_any}
 use Rattle.std.proofs.lemmas.Bool.{and_parts, false≢true, and_right, le-ltb}
 use Rattle.tp_spec.specs.declared.plan.Item.{Item}
 use Rattle.tp_spec.specs.declared.plan.Item.TheVariants.{TimedAt, End, Start}
@@ -9,10 +9,9 @@ use Rattle.tp_spec.specs.declared.plan.Mark.{Mark}
 use Rattle.tp_spec.specs.declared.problem.Problem.{Problem}
 use Rattle.tp_spec.specs.declared.problem.TimedItem.{TimedItem}
 use Rattle.tp_spec.specs.Lists.{is_empty, IsIn}
-use Rattle.tp_spec.specs.Items.{is_durative}
 use Rattle.tp_spec.specs.Courses.{in_range}
-use Rattle.tp_spec.specs.Words.{Progress, Act, acts_of, acts_from, with_act, groups, timed_of, Sound, Follow, may_follow, may_join, in_turn, past_group, with_item, read_mark, at_start, is_start_of, is_end_of}
-use Rattle.tp_spec.specs.Schedules.{Live, Schedule, IsSchedule, IsInLength, IsLeast, finish}
+use Rattle.tp_spec.specs.Words.{Progress, Act, acts_of, acts_from, with_act, groups, timed_of, Sound, Follow, may_follow, in_turn, past_group, with_item, read_mark, at_start, is_start_of, is_end_of}
+use Rattle.tp_spec.specs.Schedules.{Schedule, IsSchedule, IsInLength, IsLeast, finish}
 use Rattle.tp_laws.specs.Early.{IsShort, one_by_one}
 use Rattle.tp_laws.proofs.EarlyPlain.{IsInstant}
 use Rattle.tp_laws.proofs.EarlyLists.{each-in, each-map, each-push}

@@ -1,20 +1,20 @@
 -- Reading a word: its parts, the states of its course, and the word of a plan.
-use Rattle.std.proofs.Common.{◌≡◌, refl, sym, ap, subst, ◌∙◌, ℕ, zero, suc, ◌+◌, ◌-◌, ◌<◌, ◌≤◌, Bool, true, false, not, ◌&&◌, ◌||◌, cond, List, [], ◌∷◌, ◌++◌, map, length, Option, Some, None, arith, rules, IsTrue, IsSome, nat_lt, append_assoc, append-nil}
+use Rattle.std.proofs.Common.{◌≡◌, refl, sym, ap, subst, ◌∙◌, ℕ, zero, suc, ◌<◌, ◌≤◌, Bool, true, false, not, ◌&&◌, ◌||◌, cond, List, [], ◌∷◌, ◌++◌, map, length, Some, None, arith, IsSome, nat_lt, append_assoc, append-nil}
 use Rattle.std.specs.List.{AllByRecursion as Each, list_any, list_all, range_with_len}
 use Rattle.std.specs.Option.{option_and_then}
 use Rattle.std.proofs.lemmas.Bool.{and_parts, and_from, false≢true, ltb-true, ltb-false}
 use Rattle.std.proofs.lemmas.List.Folds.{list_all-append}
 use Rattle.tp_spec.specs.declared.plan.Item.{Item}
-use Rattle.tp_spec.specs.declared.plan.Item.TheVariants.{TimedAt, End, Start}
+use Rattle.tp_spec.specs.declared.plan.Item.TheVariants.{Start}
 use Rattle.tp_spec.specs.declared.plan.Mark.{Mark}
 use Rattle.tp_spec.specs.declared.plan.Timed.{Timed}
 use Rattle.tp_spec.specs.declared.problem.Problem.{Problem}
 use Rattle.tp_spec.specs.Lists.{is_empty, each_pair}
-use Rattle.tp_spec.specs.States.{State, initial, holds}
-use Rattle.tp_spec.specs.Items.{own, after, has_after, next, effects_of, item_before, is_durative, invariants}
+use Rattle.tp_spec.specs.States.{State, initial}
+use Rattle.tp_spec.specs.Items.{own, after, has_after, next, effects_of, item_before}
 use Rattle.tp_spec.specs.Interference.{interfere}
 use Rattle.tp_spec.specs.Courses.{happening, state_before}
-use Rattle.tp_spec.specs.Words.{Progress, Follow, Sound, may_follow, may_join, in_turn, closes, past_group, state_past, runs_after, keeps_running, read_mark, read_on, progress, with_item, at_start, is_end_of, marked, joining, spelled}
+use Rattle.tp_spec.specs.Words.{Progress, Follow, in_turn, closes, past_group, state_past, runs_after, read_mark, read_on, progress, with_item, at_start, is_end_of, marked, joining, spelled}
 use Rattle.tp_laws.proofs.EarlyPlain.{IsInstant}
 use Rattle.tp_laws.proofs.EarlyLive.{Quiet, quiet-past}
 

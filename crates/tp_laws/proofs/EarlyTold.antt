@@ -1,11 +1,11 @@
 -- A sound word of instant actions is spelled by the acts that it tells, group k at tick k.
-use Rattle.std.proofs.Common.{◌≡◌, refl, sym, ap, subst, ◌∙◌, ℕ, zero, suc, ◌+◌, ◌-◌, ◌<◌, ◌≤◌, ◌==◌, ◌⊎◌, inl, inr, Bool, true, false, not, ◌&&◌, ◌||◌, cond, List, [], ◌∷◌, ◌++◌, map, length, Option, Some, None, arith, rules, IsTrue, nat_lt, append_assoc, append-nil}
-use Rattle.std.specs.List.{AllByRecursion as Each, list_any, list_all, filter, range_with_len}
-use Rattle.std.proofs.lemmas.Bool.{and_parts, and_from, or_right, false≢true, eqb-true, eqb-false, eq-eqb, lt-ltb, ltb-true, ltb-false}
+use Rattle.std.proofs.Common.{◌≡◌, refl, sym, ap, subst, ◌∙◌, ℕ, zero, suc, ◌+◌, ◌-◌, ◌<◌, ◌≤◌, ◌==◌, ◌⊎◌, inl, inr, Bool, true, false, not, ◌&&◌, ◌||◌, cond, List, [], ◌∷◌, ◌++◌, map, length, Some, None, arith, IsTrue, nat_lt, append_assoc, append-nil}
+use Rattle.std.specs.List.{AllByRecursion as Each, list_all, range_with_len}
+use Rattle.std.proofs.lemmas.Bool.{and_parts, and_from, or_right, false≢true, eqb-true, eq-eqb, lt-ltb, ltb-true}
 use Rattle.std.proofs.lemmas.List.{map-append}
 use Rattle.std.proofs.lemmas.List.Folds.{list_any-append}
 use Rattle.tp_spec.specs.declared.plan.Item.{Item}
-use Rattle.tp_spec.specs.declared.plan.Item.TheVariants.{TimedAt, End, Start}
+use Rattle.tp_spec.specs.declared.plan.Item.TheVariants.{Start}
 use Rattle.tp_spec.specs.declared.plan.Mark.{Mark}
 use Rattle.tp_spec.specs.declared.plan.Timed.{Timed}
 use Rattle.tp_spec.specs.declared.problem.Problem.{Problem}
@@ -13,7 +13,7 @@ use Rattle.tp_spec.specs.Lists.{is_empty, IsIn}
 use Rattle.tp_spec.specs.Items.{item_before, is_durative}
 use Rattle.tp_spec.specs.Interference.{interfere}
 use Rattle.tp_spec.specs.Courses.{happening, in_range}
-use Rattle.tp_spec.specs.Words.{Progress, Act, Sound, Follow, may_follow, may_join, in_turn, read_mark, read_on, progress, past_group, with_item, at_start, groups, acts_of, acts_from, with_act, marked, joining, spelled}
+use Rattle.tp_spec.specs.Words.{Progress, Act, Sound, Follow, may_follow, may_join, in_turn, read_mark, progress, past_group, at_start, groups, acts_of, acts_from, with_act, marked, joining, spelled}
 use Rattle.tp_spec.specs.Schedules.{timed_act, finish}
 use Rattle.tp_laws.specs.Early.{one_by_one}
 use Rattle.tp_laws.proofs.EarlyPlain.{IsInstant}
@@ -147,8 +147,8 @@ module _ (p : Problem) (plain : IsInstant p) where
         some = λ g e. refl;
         opened = λ e. omega arith;
         placed = each-push (Placed p (suc n) (Start a ∷ [])) acts (instant_act a n)
-          (each-map (Placed p n group) (Placed p (suc n) (Start a ∷ [])) acts (λ x h. record { at_once = h.at_once; ranged = h.ranged; in_groups = inl (omega (arith, before-end n group x h)) }) t.placed)
-          (record { at_once = refl; ranged = plain.at_once a there; in_groups = inr (refl, inl refl) });
+            (each-map (Placed p n group) (Placed p (suc n) (Start a ∷ [])) acts (λ x h. record { at_once = h.at_once; ranged = h.ranged; in_groups = inl (omega (arith, before-end n group x h)) }) t.placed)
+            (record { at_once = refl; ranged = plain.at_once a there; in_groups = inr (refl, inl refl) });
         rises = rising-push earlier acts (instant_act a n) t.rises (each-map (Placed p n group) (λ x. earlier x (instant_act a n) ≡ true) acts (λ x h. by_start x (instant_act a n) (before-end n group x h)) t.placed);
       }
 
@@ -175,8 +175,8 @@ module _ (p : Problem) (plain : IsInstant p) where
         some = λ h e. grown group (Start a);
         opened = λ e. omega arith;
         placed = each-push (Placed p (suc g) (group ++ Start a ∷ [])) acts (instant_act a g)
-          (each-map (Placed p (suc g) group) (Placed p (suc g) (group ++ Start a ∷ [])) acts (λ x h. record { at_once = h.at_once; ranged = h.ranged; in_groups = still x h.in_groups }) t.placed)
-          (record { at_once = refl; ranged = plain.at_once a there; in_groups = inr (refl, in-right (Start a) group (Start a ∷ []) (inl refl)) });
+            (each-map (Placed p (suc g) group) (Placed p (suc g) (group ++ Start a ∷ [])) acts (λ x h. record { at_once = h.at_once; ranged = h.ranged; in_groups = still x h.in_groups }) t.placed)
+            (record { at_once = refl; ranged = plain.at_once a there; in_groups = inr (refl, in-right (Start a) group (Start a ∷ []) (inl refl)) });
         rises = rising-push earlier acts (instant_act a g) t.rises (each-map (Placed p (suc g) group) (λ x. earlier x (instant_act a g) ≡ true) acts (λ x h. before_last x all_before h.in_groups) t.placed);
       }
     where

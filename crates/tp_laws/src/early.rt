@@ -9,6 +9,7 @@ ghost use Rattle.tp_spec.specs.Lists.{BeginsWith};
 ghost use Rattle.tp_spec.specs.Machine.{Machine, ExpandIsLegal, IsCovered, rank, step};
 ghost use Rattle.tp_spec.specs.Schedules.{Schedule, Live, IsLeast, plan_of};
 ghost use Rattle.tp_spec.specs.Words.{Sound, spell};
+ghost use Rattle.tp_laws.specs.Examples.{lamp, arch};
 ghost use Rattle.tp_laws.specs.Early.{IsEarly, IsPlain, IsShort, one_by_one};
 
 /// On a plain problem exactly the short sound words are live, and the least schedule of one has its groups at the ticks
@@ -33,4 +34,10 @@ pub fn covered_after_expand()
 pub fn plans_of_live_words()
     ensures spelled { (p : Problem) (l : Limits) (w : List Mark) (x : Schedule) → IsPlain p → Sound p w → IsLeast p l 0 [] w x → spell p (plan_of p w x) ≡ w }
     ensures possible { (p : Problem) (l : Limits) (w : List Mark) (x : Schedule) → IsPlain p → Sound p w → IsLeast p l 0 [] w x → rank p w ≡ 0 → Possible p l 0 [] (plan_of p w x) }
+{}
+
+/// The lamp's button is a plain problem, two arches of durative actions are none.
+pub fn plain_problems()
+    ensures plain { IsPlain lamp }
+    ensures durative { ¬ IsPlain arch }
 {}

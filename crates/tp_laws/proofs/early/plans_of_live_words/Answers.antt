@@ -1,4 +1,4 @@
-use Rattle.std.proofs.Common.{◌≡◌, sym, ap, subst, ◌∙◌, []}
+use Rattle.std.proofs.Common.{sym, ap, subst, ◌∙◌, []}
 use Rattle.tp_spec.specs.Courses.{Possible}
 use Rattle.tp_spec.specs.Words.{spell}
 use Rattle.tp_laws.proofs.EarlyPlain.{is_instant}
