@@ -1,3 +1,6 @@
 pub mod Views
 pub mod Charter
 pub mod Room
+pub mod Turns
+pub mod Keeps
+pub mod Answers

@@ -1,7 +1,10 @@
 ghost use Rattle.std.specs.Prelude.{◌≡◌, ◌≤◌, ◌+◌, ◌<◌, [], ◌∷◌, ◌++◌, IfOk, IfErr, OnOk, OnErr, vec_len, vec_capacity, true, false};
 ghost use Rattle.std.specs.BinaryHeap.{heap_len, heap_capacity};
+ghost use Rattle.tp_world.specs.Counts.{one_more};
 ghost use Rattle.open_tree.specs.Charter.{SameCharter};
 ghost use Rattle.open_tree.specs.Room.{HasRoom};
+ghost use Rattle.open_tree.specs.Turns.{IsTurn, IsTold, has_outcome, event_list};
+ghost use Rattle.open_tree.specs.Answers.{GivesTaken, GivesMerged, MakesMove, is_over_answer};
 
 use crate::frontier::Frontier;
 use crate::job::{Job, Merged, Sprouts, Taken};
@@ -26,11 +29,13 @@ pub struct Tree<'p, C: Clock> {
     history: Vec<Event>,
     over: bool,
     opened: Snapshot<C>,
+    spare: bool,
 }
 
 impl<'p, C: Clock> Model for Tree<'p, C> {
-    ghost use Rattle.std.specs.Prelude.{vec_len, vec_capacity, ◌<◌, ◌≡◌, false};
     ghost use Rattle.open_tree.specs.Views.{TreeView};
+    ghost use Rattle.open_tree.specs.Keeps.{Keeps};
+    ghost use Rattle.std.specs.Prelude.{vec_len, vec_capacity};
     ghost use Rattle.tp_spec.specs.contracts.expr.Expr as expr;
     ghost use Rattle.std.specs.Coded.{codes};
 
@@ -40,7 +45,7 @@ impl<'p, C: Clock> Model for Tree<'p, C> {
 
     ghost view = { λ t. record { problem = t.problem.now; limits = t.limits; clock = t.clock; opened = t.opened.value; history = t.history.items } };
 
-    ghost invariant = { λ t. (t.over ≡ false → vec_len t.history < vec_capacity t.history) × (C.rate t.clock ≡ t.problem.now.scale) };
+    ghost invariant = { λ t. Keeps (vec_len t.history) (vec_capacity t.history) (C.rate t.clock) t.problem.now.scale (C.count t.opened.value) (C.count t.clock) (C.given t.opened.value) (C.given t.clock) t.history.items t.over t.spare };
 }
 
 /// What a merge is going to do, with all the memory that it takes.
@@ -87,34 +92,43 @@ impl<'p, C: Clock> Tree<'p, C> {
             history,
             over: false,
             opened,
+            spare: false,
         })
     }
 
     /// One turn in which an actor takes the least open node, where there is one. Over exactly where an outcome stands.
-    /// Where memory is refused the turn is one halt.
+    /// Where memory is refused the turn is one halt; the clock was read all the same.
     pub fn take(&mut self, actor: u32) -> Result<Taken<'p>, NoMemory>
         ensures charter { SameCharter self.old self.new }
+        ensures over { has_outcome self.old.history ≡ true → (result ≡ Ok Taken.Over) × (self.new ≡ self.old) }
+        ensures turn { has_outcome self.old.history ≡ false → OnOk result (IsTurn self.old.history self.new.history actor (C.last self.new.clock)) }
+        ensures count { has_outcome self.old.history ≡ false → C.count self.new.clock ≡ one_more (C.count self.old.clock) }
+        ensures taken { has_outcome self.old.history ≡ false → IfOk result (GivesTaken self.old.history self.new.history actor (C.last self.new.clock)) }
         ensures err { OnErr result (self.new.history ≡ self.old.history ++ Event.Halt Cause.Memory ∷ []) }
     {
         if self.over {
             return Ok(Taken::Over);
         }
         let reading = self.clock.read();
-        match choose(self.alloc, &mut self.history, &self.frontier) {
+        let chosen = match choose(self.alloc, &mut self.history, &self.frontier) {
+            Ok(chosen) => chosen,
             Err(NoMemory) => {
                 self.history.push_reserved(Event::Halt {
                     cause: Cause::Memory,
                 });
                 self.over = true;
-                Err(NoMemory)
+                self.spare = true;
+                return Err(NoMemory);
             }
-            Ok(None) => {
-                self.history.push_reserved(Event::Tick { actor, reading });
+        };
+        match chosen {
+            None => {
+                write_turn(&mut self.history, actor, reading, None, None);
                 Ok(Taken::Nothing)
             }
-            Ok(Some((id, node))) => {
-                self.history.push_reserved(Event::Tick { actor, reading });
-                self.history.push_reserved(Event::Take { actor, id });
+            Some((id, node)) => {
+                let deed = Event::Take { actor, id };
+                write_turn(&mut self.history, actor, reading, Some(deed), None);
                 self.frontier.take_least(actor);
                 let commits = List::new(self.alloc);
                 Ok(Taken::Job(Job::new(self.problem, self.limits, id, node, 0, commits)))
@@ -132,6 +146,10 @@ impl<'p, C: Clock> Tree<'p, C> {
         sprouts: Sprouts<'p>,
     ) -> Result<Merged, (NoMemory, Sprouts<'p>)>
         ensures charter { SameCharter self.old self.new }
+        ensures over { has_outcome self.old.history ≡ true → (result ≡ Ok Merged.Over) × (self.new ≡ self.old) }
+        ensures turn { has_outcome self.old.history ≡ false → OnOk result (IsTurn self.old.history self.new.history actor (C.last self.new.clock)) }
+        ensures count { has_outcome self.old.history ≡ false → C.count self.new.clock ≡ one_more (C.count self.old.clock) }
+        ensures merged { has_outcome self.old.history ≡ false → IfOk result (GivesMerged self.old.history self.new.history actor (C.last self.new.clock) sprouts.entry) }
         ensures err { OnErr result (self.new.history ≡ self.old.history ++ Event.Halt Cause.Memory ∷ []) }
         ensures back { IfErr result (λ e. e.1 ≡ sprouts.entry) }
     {
@@ -156,47 +174,22 @@ impl<'p, C: Clock> Tree<'p, C> {
                     cause: Cause::Memory,
                 });
                 self.over = true;
+                self.spare = true;
                 return Err((NoMemory, sprouts));
             }
         };
-        self.history.push_reserved(Event::Tick { actor, reading });
-        let id = sprouts.id();
-        match step {
-            Step::Stale => Ok(Merged::Stale),
-            Step::Publish(plan) => {
-                self.history
-                    .push_reserved(Event::Publish { actor, id, plan });
-                self.over = true;
-                Ok(Merged::Over)
-            }
-            Step::Limit { made, marks } => {
-                self.history.push_reserved(Event::Limit {
-                    actor,
-                    id,
-                    made,
-                    marks,
-                });
-                self.over = true;
-                Ok(Merged::Over)
-            }
-            Step::Expand(children) => {
-                let marks = sprouts.into_marks();
-                self.history
-                    .push_reserved(Event::Expand { actor, id, marks });
-                self.frontier.expand(id, children);
-                if self.frontier.is_empty() {
-                    self.history.push_reserved(Event::Exhaust);
-                    self.over = true;
-                    return Ok(Merged::Over);
-                }
-                Ok(Merged::Done)
-            }
-        }
+        let Move { deed, end, merged } = move_of(&mut self.frontier, actor, sprouts, step);
+        write_turn(&mut self.history, actor, reading, deed, end);
+        self.over = is_over(merged);
+        Ok(merged)
     }
 
     /// Ends the run with no outcome of the search, where none stands yet.
     pub fn halt(&mut self, cause: Cause)
         ensures charter { SameCharter self.old self.new }
+        ensures over { has_outcome self.old.history ≡ true → self.new ≡ self.old }
+        ensures halted { has_outcome self.old.history ≡ false → self.new.history ≡ self.old.history ++ Event.Halt cause ∷ [] }
+        ensures clock { self.new.clock ≡ self.old.clock }
     {
         if !self.over {
             self.history.push_reserved(Event::Halt { cause });
@@ -222,6 +215,7 @@ impl<'p, C: Clock> Tree<'p, C> {
     pub fn into_parts(self) -> (Vec<Event>, C)
         ensures history { result.0.items ≡ self.entry.history }
         ensures clock { result.1 ≡ self.entry.clock }
+        ensures clocked { IsTold (C.count self.entry.opened) (C.count self.entry.clock) (C.given self.entry.opened) self.entry.history }
     {
         let Tree {
             alloc: _,
@@ -233,8 +227,104 @@ impl<'p, C: Clock> Tree<'p, C> {
             history,
             over: _,
             opened: _,
+            spare: _,
         } = self;
         (history, clock)
+    }
+}
+
+/// What a merge does: its deed, the end of the search if it ends, and the answer.
+#[derive(Drop)]
+struct Move {
+    deed: Option<Event>,
+    end: Option<Event>,
+    merged: Merged,
+}
+
+fn is_over(merged: Merged) -> bool
+    ensures { result ≡ is_over_answer merged }
+{
+    match merged {
+        Merged::Over => true,
+        Merged::Done => false,
+        Merged::Stale => false,
+    }
+}
+
+/// Does to the frontier what was prepared, and tells the events of it.
+fn move_of(frontier: &mut Frontier, actor: u32, sprouts: Sprouts<'_>, step: Step) -> Move
+    requires { HasRoom frontier.old step }
+    ensures { MakesMove actor sprouts.entry result }
+{
+    let id = sprouts.id();
+    match step {
+        Step::Stale => Move {
+            deed: None,
+            end: None,
+            merged: Merged::Stale,
+        },
+        Step::Publish(plan) => Move {
+            deed: Some(Event::Publish { actor, id, plan }),
+            end: None,
+            merged: Merged::Over,
+        },
+        Step::Limit { made, marks } => Move {
+            deed: Some(Event::Limit {
+                actor,
+                id,
+                made,
+                marks,
+            }),
+            end: None,
+            merged: Merged::Over,
+        },
+        Step::Expand(children) => {
+            let marks = sprouts.into_marks();
+            let deed = Some(Event::Expand { actor, id, marks });
+            frontier.expand(id, children);
+            if frontier.is_empty() {
+                Move {
+                    deed,
+                    end: Some(Event::Exhaust),
+                    merged: Merged::Over,
+                }
+            } else {
+                Move {
+                    deed,
+                    end: None,
+                    merged: Merged::Done,
+                }
+            }
+        }
+    }
+}
+
+/// Writes the events of a turn. There is room for them, and for a halt behind them.
+fn write_turn(
+    history: &mut Vec<Event>,
+    actor: u32,
+    reading: u64,
+    deed: Option<Event>,
+    end: Option<Event>,
+)
+    requires { vec_len history.old + 4 ≤ vec_capacity history.old }
+    ensures items { history.new.items ≡ history.old.items ++ Event.Tick actor reading ∷ (event_list deed ++ event_list end) }
+    ensures room { vec_len history.new < vec_capacity history.new }
+{
+    history.push_reserved(Event::Tick { actor, reading });
+    push_some(history, deed);
+    push_some(history, end);
+}
+
+fn push_some(history: &mut Vec<Event>, event: Option<Event>)
+    requires { vec_len history.old + 1 ≤ vec_capacity history.old }
+    ensures items { history.new.items ≡ history.old.items ++ event_list event }
+    ensures len { vec_len history.new ≤ vec_len history.old + 1 }
+    ensures capacity { vec_capacity history.new ≡ vec_capacity history.old }
+{
+    match event {
+        Some(event) => history.push_reserved(event),
+        None => {}
     }
 }
 
@@ -263,24 +353,24 @@ fn root_rank(alloc: Global, actions: &PlainActions, problem: &Problem) -> Result
     Ok(walk.unmet(problem.goal.as_slice()))
 }
 
-/// Makes room for a tick, a take and a halt, and copies the least open node.
+/// Makes room for a turn and a halt, and copies the least open node.
 fn choose(
     alloc: Global,
     history: &mut Vec<Event>,
     frontier: &Frontier,
 ) -> Result<Option<(u32, Node)>, NoMemory>
     ensures items { history.new.items ≡ history.old.items }
-    ensures room { OnOk result (vec_len history.new + 3 ≤ vec_capacity history.new) }
+    ensures room { OnOk result (vec_len history.new + 4 ≤ vec_capacity history.new) }
     ensures kept_room { vec_capacity history.old ≤ vec_capacity history.new }
 {
-    match history.reserve(3) {
+    match history.reserve(4) {
         Ok(()) => {}
         Err(_) => return Err(NoMemory),
     }
     frontier.least_open(alloc)
 }
 
-/// Finds what a merge is to do, and takes all the memory for it: room for a tick, an expansion, an end and a halt.
+/// Finds what a merge is to do, and takes all the memory for it, with room for a turn and a halt.
 fn prepare(
     alloc: Global,
     problem: &Problem,

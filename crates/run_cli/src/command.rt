@@ -1,6 +1,7 @@
 ghost use Rattle.std.specs.Prelude.{◌≡◌, ◌⊎◌, [], true, false, MatchOption, string_bytes};
 ghost use Rattle.std.specs.Io.KnownBytes.{Appends};
 ghost use Rattle.tp_world.specs.Counts.{Rose};
+ghost use Rattle.open_tree.specs.Turns.{IsTold};
 ghost use Rattle.run_cli.specs.Commands.{is_solve_words, is_solve as is_solve_of, begins_with_dash as begins_with_dash_of};
 
 use crate::printing::result_text;
@@ -46,6 +47,7 @@ pub fn run<F: Files, O: Sink + Send, C: Clock + Send, G: Gate>(
     ensures load { result.status ≡ 5 → Rose (F.load_faults files.old) (F.load_faults files.new) }
     ensures write { result.status ≡ 6 → Rose (O.faults out.old) (O.faults out.new) }
     ensures empty { (result.status ≡ 3) ⊎ ((result.status ≡ 4) ⊎ (result.status ≡ 5)) → result.history.items ≡ [] }
+    ensures told { (result.status ≡ 0) ⊎ ((result.status ≡ 1) ⊎ (result.status ≡ 2)) → IsTold (C.count clock) (C.count result.clock) (C.given clock) result.history.items }
 {
     match solve_name(words) {
         Some(name) => solve_file(alloc, name, files, out, clock),
@@ -124,6 +126,7 @@ fn solve_file<F: Files, O: Sink, C: Clock>(
     ensures load { result.status ≡ 5 → Rose (F.load_faults files.old) (F.load_faults files.new) }
     ensures write { result.status ≡ 6 → Rose (O.faults out.old) (O.faults out.new) }
     ensures empty { (result.status ≡ 4) ⊎ (result.status ≡ 5) → result.history.items ≡ [] }
+    ensures told { (result.status ≡ 0) ⊎ ((result.status ≡ 1) ⊎ (result.status ≡ 2)) → IsTold (C.count clock) (C.count result.clock) (C.given clock) result.history.items }
 {
     let text = match files.load(alloc, name, MOST_BYTES) {
         Ok(text) => text,
@@ -165,6 +168,7 @@ fn solve<O: Sink, C: Clock>(
 ) -> Ending<C>
     ensures cases { (result.status ≡ 0) ⊎ ((result.status ≡ 1) ⊎ ((result.status ≡ 2) ⊎ ((result.status ≡ 6) ⊎ (result.status ≡ 7)))) }
     ensures write { result.status ≡ 6 → Rose (O.faults out.old) (O.faults out.new) }
+    ensures told { (result.status ≡ 7) ⊎ IsTold (C.count clock) (C.count result.clock) (C.given clock) result.history.items }
 {
     clock.begin(problem.scale);
     let mut tree = match Tree::new(alloc, problem, DEFAULT_LIMITS, clock) {
@@ -182,7 +186,9 @@ fn solve<O: Sink, C: Clock>(
 }
 
 /// One worker takes, sprouts and merges until an outcome stands.
-fn search<C: Clock>(alloc: Global, problem: &Problem, tree: &mut Tree<'_, C>) {
+fn search<C: Clock>(alloc: Global, problem: &Problem, tree: &mut Tree<'_, C>)
+    ensures { tree.new.opened ≡ tree.old.opened }
+{
     let Ok(actions) = PlainActions::of(alloc, problem) else {
         tree.halt(Cause::Memory);
         return;
@@ -208,7 +214,9 @@ fn grow<'p, C: Clock>(
     actions: &PlainActions,
     tree: &mut Tree<'p, C>,
     job: Job<'p>,
-) -> bool {
+) -> bool
+    ensures { tree.new.opened ≡ tree.old.opened }
+{
     let Ok(marks) = live_marks(alloc, problem, actions, &job) else {
         tree.halt(Cause::Memory);
         return false;

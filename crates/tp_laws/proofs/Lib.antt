@@ -1,4 +1,10 @@
 pub mod Ticks
+pub mod States
+pub mod Reorderings
+pub mod Orders
+pub mod Sequences
+pub mod Readings
+pub mod Ends
 pub mod EarlyPlain
 pub mod EarlyLists
 pub mod EarlyLive

@@ -1,11 +1,11 @@
 -- What holds at each of some ticks holds up to the last one.
-use Rattle.std.proofs.Common.{◌≡◌, ℕ, zero, suc, ◌≤◌, arith, sym, subst, ◌⊎◌, inl, inr}
+use Rattle.std.proofs.Common.{◌≡◌, ℕ, zero, suc, ◌≤◌, arith, subst, ◌⊎◌, inl, inr}
 
 abbrev pub EachTick : (ℕ → Type 0) → ℕ → Type 0
 EachTick P zero = P 0
 EachTick P (suc n) = EachTick P n × P (suc n)
 
-le_suc : (t n : ℕ) → t ≤ suc n → (t ≤ n) ⊎ (suc n ≡ t)
+pub le_suc : (t n : ℕ) → t ≤ suc n → (t ≤ n) ⊎ (suc n ≡ t)
 le_suc zero n h = inl (omega arith)
 le_suc (suc t) zero h = inr (omega (arith, h))
 le_suc (suc t) (suc n) h = elim (le_suc t n (omega (arith, h))) [ inl b ↦ inl (omega (arith, b)) | inr e ↦ inr (omega (arith, e)) ]

@@ -1,5 +1,5 @@
 -- Small problems and plans against which the definitions are checked.
-use Rattle.std.specs.Prelude.{ℕ, ◌^◌, ◌-◌, Bool, true, false, List, [], ◌∷◌, Some, ℤ, pos, codes}
+use Rattle.std.specs.Prelude.{ℕ, ◌^◌, true, false, List, [], ◌∷◌, Some, ℤ, pos, codes}
 use Rattle.tp_spec.specs.WellFormed.{Ground}
 use Rattle.tp_spec.specs.declared.plan.Limits.{Limits}
 use Rattle.tp_spec.specs.declared.plan.Mark.{Mark}
@@ -15,7 +15,6 @@ use Rattle.tp_spec.specs.declared.problem.Effect.TheVariants.{Add, Delete, Chang
 use Rattle.tp_spec.specs.declared.problem.How.TheVariants.{Increase}
 use Rattle.tp_spec.specs.declared.problem.Kind.TheVariants.{Instant, Durative}
 use Rattle.tp_spec.specs.declared.problem.Op.TheVariants.{MoreEq}
-use Rattle.tp_spec.specs.declared.problem.TimedItem.{TimedItem}
 
 abbrev pub wide : Limits
 wide = record { actions = 64; horizon = 2 ^ 40; lead = 0; nodes = 50000 }

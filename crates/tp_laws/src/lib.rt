@@ -4,6 +4,7 @@
 
 mod early;
 mod examples;
+mod laws;
 
 pub use early::{
     covered_after_expand, live_fronts, live_words, plain_problems, plans_of_live_words,
@@ -11,3 +12,4 @@ pub use early::{
 pub use examples::{
     goal_at_start, invariants_given_together, spelled_words, states_after, unsafe_plans,
 };
+pub use laws::{end_of_word, nothing_happens, order_of_items, states_read};

@@ -1,5 +1,5 @@
 //! Adapters of the real thing. What the system holds is not told, so no clause speaks of it.
-ghost use Rattle.std.specs.Prelude.{◌≡◌, ◌*◌, ◌/◌, ◌-◌, ◌^◌, min, None, IfSome, IfNone};
+ghost use Rattle.std.specs.Prelude.{◌≡◌, ◌*◌, ◌/◌, ◌-◌, ◌^◌, min, None};
 ghost use Rattle.std.specs.Duration.{as_nanos};
 
 use crate::clock::Clock;

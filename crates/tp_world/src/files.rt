@@ -1,6 +1,6 @@
-ghost use Rattle.std.specs.Prelude.{◌≡◌, ℕ, List, [], ◌∷◌, ◌++◌, Option, Some, IfSome, IsSomeAnd, ◌<◌, ◌≤◌, ◌↔◌, ◌⊎◌, IfOk, OnOk, OnErr, IsErrOf, IsTrue, if◌then◌else◌, length, vec_len, option_copied, position, find, map, string_bytes};
-ghost use Rattle.tp_world.specs.Counts.{Rose, one_more};
+ghost use Rattle.std.specs.Prelude.{◌≡◌, ℕ, List, [], ◌∷◌, ◌++◌, Option, Some, IfSome, IsSomeAnd, ◌<◌, ◌≤◌, ◌⊎◌, IfOk, OnOk, OnErr, IsErrOf, IsTrue, if◌then◌else◌, length, vec_len, option_copied, position, find, map, string_bytes};
 ghost use Rattle.std.specs.Str.{bytes_eq};
+ghost use Rattle.tp_world.specs.Counts.{Rose, one_more};
 ghost use Rattle.tp_world.specs.Contents.{KeepsOthers, Stores, content_of, file_of, fails_next};
 ghost use Rattle.tp_world.specs.LoadFaults.{load_faults_after};
 

@@ -1,4 +1,4 @@
-ghost use Rattle.std.specs.Prelude.{◌≡◌, ◌≢◌, ℕ, List, [], ◌++◌, Option, Some, None, IfSome, ◌≤◌, OnOk, OnErr, IsErrOf, take};
+ghost use Rattle.std.specs.Prelude.{◌≡◌, ℕ, List, [], ◌++◌, Option, Some, None, ◌≤◌, OnOk, IsErrOf, take};
 ghost use Rattle.std.specs.Io.KnownBytes.{Appends, Keeps};
 ghost use Rattle.tp_world.specs.Counts.{Rose, one_more};
 ghost use Rattle.tp_world.specs.Sinks.{AppendsFront, bytes_of_put};

@@ -1,17 +1,16 @@
 //! The traits used through their bounds, the fakes through the traits, and the adapters on the system.
-ghost use Rattle.std.specs.Prelude.{◌≡◌, ℕ, List, ◌++◌, ◌<◌, Some, IfSome, IfOk, OnOk, length};
-ghost use Rattle.std.specs.List.{slice_get};
+ghost use Rattle.std.specs.Prelude.{◌≡◌, ℕ, List, ◌++◌, Some, IfSome, IfOk, OnOk, length};
 ghost use Rattle.std.specs.Io.KnownBytes.{Appends};
 ghost use Rattle.tp_world.specs.Counts.{Rose, count_after};
-ghost use Rattle.tp_world.specs.Readings.{reading_at, AreNext};
+ghost use Rattle.tp_world.specs.Readings.{AreNext};
 ghost use Rattle.tp_world.specs.Sinks.{AppendsFront};
 
 use crate::adapters::{DiskFiles, ElapsedClock, PauseGate, StdSink};
 use crate::clock::{Clock, ListClock};
-use crate::files::{Files, LoadFault, MemoryFiles, SaveFault};
+use crate::files::{Files, LoadFault, MemoryFiles};
 use crate::gate::{Gate, OpenGate, Point};
 use crate::sink::{MemorySink, SendFault, Sink};
-use std::alloc::Global;
+use std::alloc::{AllocError, Global};
 use std::fs;
 use std::test::Fail;
 use tp_spec::NoMemory;
@@ -98,34 +97,37 @@ fn refuses(loaded: &Result<Vec<u8>, LoadFault>, fault: LoadFault) -> bool {
     }
 }
 
-#[test]
-fn fakes_by_their_traits(rt: HostRuntime) -> Result<(), Fail> {
-    let alloc = rt.alloc();
+/// Files in memory with one file `a`, whose calls of these numbers fail.
+fn one_file(alloc: Global, failing: Vec<u64>) -> Result<MemoryFiles, AllocError> {
     let name = String::from_str(alloc, "a")?;
     let contents = vec![in alloc; (name, b"do\n".to_vec(alloc)?)]?;
+    Ok(MemoryFiles::new(contents, failing))
+}
 
-    // Of the calls of files, 1 and 4 fail; of the puts, 3 fails after one byte.
-    let mut files = MemoryFiles::new(contents, vec![in alloc; 1, 4]?);
+#[test]
+fn memory_files_and_sink(rt: HostRuntime) -> Result<(), Fail> {
+    let alloc = rt.alloc();
+    let mut files = one_file(alloc, vec![in alloc; 1]?)?;
+
+    // The put of number 3 fails after one byte.
     let mut out = MemorySink::new(alloc, vec![in alloc; (3, 1)]?);
     can_be_sent(&out);
-    for (name, status) in [
-        ("a", DONE),
-        ("a", LOAD_FAILED),
-        ("b", LOAD_FAILED),
-        ("a", PUT_FAILED),
-    ] {
-        let given = put_twice(alloc, name, &mut files, &mut out, &OpenGate);
-        assert!(rt; given == status, "at {name}");
+    for status in [DONE, LOAD_FAILED, PUT_FAILED] {
+        let given = put_twice(alloc, "a", &mut files, &mut out, &OpenGate);
+        assert!(rt; given == status);
     }
     assert!(rt; out.bytes() == b"do\ndo\ndo\nd".as_slice());
+    Ok(())
+}
 
-    for (name, bytes, saved) in [
-        ("b", b"x", Err(SaveFault::Failed)),
-        ("b", b"y", Ok(())),
-        ("a", b"z", Ok(())),
-    ] {
-        assert!(rt; files.save(alloc, name, bytes) == saved, "at {name}");
-    }
+#[test]
+fn memory_files(rt: HostRuntime) -> Result<(), Fail> {
+    let alloc = rt.alloc();
+    let mut files = one_file(alloc, vec![in alloc; 0]?)?;
+    assert!(rt; files.save(alloc, "b", b"x").is_err());
+    assert!(rt; refuses(&files.load(alloc, "b", 9), LoadFault::Failed));
+    assert!(rt; files.save(alloc, "b", b"y").is_ok());
+    assert!(rt; files.save(alloc, "a", b"z").is_ok());
     assert!(rt; files.content("c").is_none());
     assert!(rt; gives(&files.load(alloc, "b", 1), b"y"));
     assert!(rt; gives(&files.load(alloc, "a", 1), b"z"));

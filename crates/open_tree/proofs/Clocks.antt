@@ -1,0 +1,63 @@
+-- How a turn and a halt keep a tree's clock and history together.
+use Rattle.std.proofs.Common.{◌≡◌, refl, sym, ap, subst, ◌∙◌, ℕ, ◌+◌, Bool, true, false, List, [], ◌∷◌, ◌++◌, length, Option, Some, None, IfSome, append_assoc, append-nil, length-append, arith, if◌then◌else◌}
+use Rattle.std.proofs.lemmas.Grind.{flat_map-append}
+use Rattle.tp_spec.specs.declared.event.Event.{Event}
+use Rattle.tp_spec.specs.declared.event.Event.TheVariants.{Tick, Halt}
+use Rattle.tp_spec.specs.declared.event.Cause.{Cause}
+use Rattle.tp_spec.specs.Machine.{readings, ticks, reading_of}
+use Rattle.tp_world.specs.Counts.{count_after, one_more}
+use Rattle.tp_world.specs.Readings.{reading_at, AreNext}
+use Rattle.tp_world.proofs.ReadingsLemmas.{AreNext-read}
+use Rattle.open_tree.specs.Turns.{IsTurn, IsClocked}
+
+readings-append : (es fs : List Event) → readings (es ++ fs) ≡ readings es ++ readings fs
+readings-append es fs = flat_map-append reading_of es fs
+
+readings-turn : {old new : List Event} {actor r : ℕ} → IsTurn old new actor r → readings new ≡ readings old ++ r ∷ []
+readings-turn {old} {new} {actor} {r} t =
+    ap readings t.grown ∙ readings-append old (Tick actor r ∷ t.rest) ∙ ap (λ rs. readings old ++ r ∷ rs) t.one_reading
+
+-- a turn whose Tick holds the reading
+pub clocked_turn : {b n m : ℕ} {told now now' : Option (List ℕ)} {old new : List Event} {actor r : ℕ}
+    → IsClocked b n told now old false → m ≡ one_more n → now' ≡ now → IfSome now (λ xs. r ≡ reading_at xs n)
+    → IsTurn old new actor r → IsClocked b m told now' new false
+clocked_turn {b} {n} {m} {told} {now} {now'} {old} {new} {actor} {r} c more same reading t =
+    let longer : readings new ≡ readings old ++ r ∷ [] = readings-turn t in
+    let count : ticks new ≡ ticks old + 1 = ap length longer ∙ length-append (readings old) (r ∷ []) in
+    record {
+      counted = more ∙ ap one_more c.counted ∙ omega (arith, count);
+      same = same ∙ c.same;
+      next = subst (λ rs. IfSome told (λ xs. AreNext xs b rs)) (sym longer)
+          (AreNext-read told now b n (readings old) r c.next c.same reading (c.counted ∙ ap (count_after b) (omega arith)));
+    }
+
+-- a reading that no Tick holds, and a halt
+pub clocked_halt : {b n m : ℕ} {told now now' : Option (List ℕ)} {old new : List Event} (cause : Cause)
+    → IsClocked b n told now old false → m ≡ one_more n → now' ≡ now → new ≡ old ++ Halt cause ∷ [] → IsClocked b m told now' new true
+clocked_halt {b} {n} {m} {told} {now} {now'} {old} {new} cause c more same is =
+    let kept : readings new ≡ readings old = ap readings is ∙ readings-append old (Halt cause ∷ []) ∙ append-nil (readings old) in
+    let count : ticks new ≡ ticks old = ap length kept in
+    record {
+      counted = more ∙ ap one_more c.counted ∙ omega (arith, count);
+      same = same ∙ c.same;
+      next = subst (λ rs. IfSome told (λ xs. AreNext xs b rs)) (sym kept) c.next;
+    }
+
+-- a halt with no reading
+pub clocked_stop : {b n : ℕ} {told now : Option (List ℕ)} {old new : List Event} {spare : Bool} (cause : Cause)
+    → IsClocked b n told now old spare → new ≡ old ++ Halt cause ∷ [] → IsClocked b n told now new spare
+clocked_stop {b} {n} {told} {now} {old} {new} {spare} cause c is =
+    let kept : readings new ≡ readings old = ap readings is ∙ readings-append old (Halt cause ∷ []) ∙ append-nil (readings old) in
+    record {
+      counted = c.counted ∙ ap (λ k. count_after b (k + (if spare then 1 else 0))) (ap length (sym kept));
+      same = c.same;
+      next = subst (λ rs. IfSome told (λ xs. AreNext xs b rs)) (sym kept) c.next;
+    }
+
+next_none : (o : Option (List ℕ)) (b : ℕ) → IfSome o (λ xs. AreNext xs b [])
+next_none None b = tt
+next_none (Some xs) b = λ k below. absurd (omega (arith, below))
+
+-- before the first turn
+pub clocked_first : (b : ℕ) (told : Option (List ℕ)) {history : List Event} → history ≡ [] → b ≡ count_after b 0 → IsClocked b b told told history false
+clocked_first b told {history} none still = subst (λ h. IsClocked b b told told h false) (sym none) (record { counted = still; same = refl; next = next_none told b })

@@ -1,0 +1,70 @@
+-- How a turn and a halt keep what a tree keeps.
+use Rattle.std.proofs.Common.{◌≡◌, refl, sym, ap, subst, ◌∙◌, ℕ, ◌<◌, Bool, true, false, ◌||◌, List, [], ◌∷◌, ◌++◌, Option, Some, None, IfSome}
+use Rattle.std.proofs.lemmas.Bool.{false≢true}
+use Rattle.std.proofs.lemmas.List.Folds.{list_any-append}
+use Rattle.tp_spec.specs.declared.event.Event.{Event}
+use Rattle.tp_spec.specs.declared.event.Event.TheVariants.{Tick, Halt}
+use Rattle.tp_spec.specs.declared.event.Cause.{Cause}
+use Rattle.tp_spec.specs.Machine.{readings, reading_of}
+use Rattle.tp_world.specs.Counts.{one_more}
+use Rattle.tp_world.specs.Readings.{reading_at}
+use Rattle.open_tree.specs.Views.{SproutsView}
+use Rattle.open_tree.specs.Turns.{IsTurn, IsClocked, has_outcome, is_outcome, event_list, HoldsNone}
+use Rattle.open_tree.specs.Answers.{IsAnswered, is_over_answer}
+use Rattle.open_tree.specs.Keeps.{Keeps}
+use Rattle.open_tree.specs.declared.job.Merged.{Merged}
+use Rattle.open_tree.specs.declared.job.Merged.TheVariants.{Done, Stale, Over}
+use Rattle.open_tree.proofs.Clocks.{clocked_turn, clocked_halt}
+
+holds_none : (deed end : Option Event) → HoldsNone deed → HoldsNone end → readings (event_list deed ++ event_list end) ≡ []
+holds_none None None h k = refl
+holds_none None (Some e) h k = ap (λ rs. rs ++ []) k
+holds_none (Some d) None h k = ap (λ rs. rs ++ []) h
+holds_none (Some d) (Some e) h k = λ i. h i ++ (k i ++ [])
+
+-- a turn of these events
+pub turn_of : {old mid new : List Event} (deed end : Option Event) (actor r : ℕ)
+    → HoldsNone deed → HoldsNone end → mid ≡ old → new ≡ mid ++ Tick actor r ∷ (event_list deed ++ event_list end) → IsTurn old new actor r
+turn_of {old} {mid} {new} deed end actor r h k e is = record {
+  rest = event_list deed ++ event_list end;
+  grown = is ∙ ap (λ x. x ++ Tick actor r ∷ (event_list deed ++ event_list end)) e;
+  one_reading = holds_none deed end h k;
+}
+
+outcome_turn : {old mid new : List Event} (rest : List Event) (actor r : ℕ) → has_outcome old ≡ false → mid ≡ old → new ≡ mid ++ Tick actor r ∷ rest → has_outcome new ≡ has_outcome rest
+outcome_turn {old} {mid} {new} rest actor r none e is =
+    ap has_outcome (is ∙ ap (λ x. x ++ Tick actor r ∷ rest) e) ∙ list_any-append is_outcome old (Tick actor r ∷ rest) ∙ ap (λ b. b || has_outcome rest) none
+
+pub keeps_turn : {len cap len' cap' rate rate' scale b n m : ℕ} {told now now' : Option (List ℕ)} {old mid new : List Event} {over spare over' : Bool}
+    (deed end : Option Event) (actor r : ℕ) → over ≡ false → Keeps len cap rate scale b n told now old over spare → HoldsNone deed → HoldsNone end
+    → rate' ≡ rate → m ≡ one_more n → now' ≡ now → IfSome now (λ xs. r ≡ reading_at xs n)
+    → mid ≡ old → new ≡ mid ++ Tick actor r ∷ (event_list deed ++ event_list end) → len' < cap'
+    → over' ≡ has_outcome (event_list deed ++ event_list end) → Keeps len' cap' rate' scale b m told now' new over' spare
+keeps_turn {b = b} {n = n} {m = m} {told = told} {now = now} {now' = now'} {old = old} {new = new} {spare = spare} deed end actor r stands k h h' rated more same reading e is room answer =
+    let z : spare ≡ false = k.exact stands in record {
+      room = λ _. room;
+      rated = rated ∙ k.rated;
+      standing = answer ∙ sym (outcome_turn (event_list deed ++ event_list end) actor r (sym k.standing ∙ stands) e is);
+      clocked = subst (λ s. IsClocked b m told now' new s) (sym z)
+          (clocked_turn (subst (λ s. IsClocked b n told now old s) z k.clocked) more same reading (turn_of deed end actor r h h' e is));
+      exact = λ _. z;
+    }
+
+pub keeps_halt : {len cap len' cap' rate rate' scale b n m : ℕ} {told now now' : Option (List ℕ)} {old mid new : List Event} {over spare : Bool}
+    (cause : Cause) → over ≡ false → Keeps len cap rate scale b n told now old over spare
+    → rate' ≡ rate → m ≡ one_more n → now' ≡ now → mid ≡ old → new ≡ mid ++ Halt cause ∷ [] → Keeps len' cap' rate' scale b m told now' new true true
+keeps_halt {b = b} {n = n} {told = told} {now = now} {old = old} {new = new} {spare = spare} cause stands k rated more same e is =
+    let whole : new ≡ old ++ Halt cause ∷ [] = is ∙ ap (λ x. x ++ Halt cause ∷ []) e in record {
+      room = λ t. absurd (false≢true (sym t));
+      rated = rated ∙ k.rated;
+      standing = sym (ap has_outcome whole ∙ list_any-append is_outcome old (Halt cause ∷ []) ∙ ap (λ x. x || true) (sym k.standing ∙ stands));
+      clocked = clocked_halt cause (subst (λ s. IsClocked b n told now old s) (k.exact stands) k.clocked) more same whole;
+      exact = λ t. absurd (false≢true (sym t));
+    }
+
+-- the answer of a merge is over exactly where its events have an outcome
+pub answer_over : (actor : ℕ) (sprouts : SproutsView) (deed end : Option Event) (merged : Merged)
+    → IsAnswered actor sprouts deed end merged → is_over_answer merged ≡ has_outcome (event_list deed ++ event_list end)
+answer_over actor sprouts deed end Done a = sym (λ i. has_outcome (event_list (a.0 i) ++ event_list (a.1 i)))
+answer_over actor sprouts deed end Stale a = sym (λ i. has_outcome (event_list (a.0 i) ++ event_list (a.1 i)))
+answer_over actor sprouts deed end Over a = sym a
