@@ -15,13 +15,14 @@ use Rattle.tp_spec.specs.Interference.{interfere}
 use Rattle.tp_spec.specs.Courses.{happening, in_range}
 use Rattle.tp_spec.specs.Words.{Progress, Act, Sound, Follow, may_follow, may_join, in_turn, read_mark, progress, past_group, at_start, groups, acts_of, acts_from, with_act, marked, joining, spelled}
 use Rattle.tp_spec.specs.Schedules.{timed_act, finish}
-use Rattle.tp_laws.specs.Early.{one_by_one}
+use Rattle.tp_laws.specs.Early.{consecutive}
 use Rattle.tp_laws.proofs.EarlyPlain.{IsInstant}
 use Rattle.tp_laws.proofs.EarlyLists.{Rising, in-left, in-right, each-in, each-map, each-push, each-true, rising-push, filter-same, filter-none, filter-insert}
 use Rattle.tp_laws.proofs.EarlyStarts.{starts_at, started, happening-starts}
 use Rattle.tp_laws.proofs.EarlyLive.{Quiet, quiet-past, only_starts}
-use Rattle.tp_laws.proofs.EarlyReading.{read-append, grown}
-use Rattle.tp_laws.proofs.EarlyFronts.{groups-append}
+use Rattle.tp_laws.proofs.EarlyReading.{grown}
+use Rattle.tp_laws.proofs.Readings.{read_on-append}
+use Rattle.tp_laws.proofs.Ends.{groups-append}
 
 abbrev pub instant_act : ℕ → ℕ → Timed
 instant_act a t = record { action = a; start = t; length = 0 }
@@ -32,7 +33,7 @@ earlier x y = nat_lt x.start y.start || (x.start == y.start && nat_lt x.action y
 
 -- the acts of a word, group k at tick k
 abbrev pub told : Problem → List Mark → List Timed
-told p w = map (timed_act one_by_one) (acts_of p w)
+told p w = map (timed_act consecutive) (acts_of p w)
 
 -- an act of the first n groups, in the last one where that is its tick
 pub record Placed (p : Problem) (n : ℕ) (group : List Item) (x : Timed) : Type 0 where
@@ -189,10 +190,10 @@ module _ (p : Problem) (plain : IsInstant p) where
       before_last x all (inr e) = by_action x (instant_act a g) (omega (arith, e.0)) (each-in (λ j. item_before j (Start a) ≡ true) group (Start x.action) all e.1)
 
   -- one start more
-  act_of_start : (a n k : ℕ) → k ≡ n → timed_act one_by_one (record { action = a; opens = k; closes = cond (is_durative p a) None (Some k) }) ≡ instant_act a n
+  act_of_start : (a n k : ℕ) → k ≡ n → timed_act consecutive (record { action = a; opens = k; closes = cond (is_durative p a) None (Some k) }) ≡ instant_act a n
   act_of_start a n k e =
-      let ends : finish one_by_one (record { action = a; opens = k; closes = cond (is_durative p a) None (Some k) }) ≡ k = ap (λ b. finish one_by_one (record { action = a; opens = k; closes = cond b None (Some k) })) (plain.instant a) in
-      let no_length : finish one_by_one (record { action = a; opens = k; closes = cond (is_durative p a) None (Some k) }) - k ≡ 0 = omega (arith, ends) in
+      let ends : finish consecutive (record { action = a; opens = k; closes = cond (is_durative p a) None (Some k) }) ≡ k = ap (λ b. finish consecutive (record { action = a; opens = k; closes = cond b None (Some k) })) (plain.instant a) in
+      let no_length : finish consecutive (record { action = a; opens = k; closes = cond (is_durative p a) None (Some k) }) - k ≡ 0 = omega (arith, ends) in
       λ i. record { action = a; start = e i; length = no_length i }
 
   told-more : (u : List Mark) (b : Bool) (a n : ℕ) → cond b (groups u + 1) (groups u) - 1 ≡ n → told p (u ++ record { fresh = b; item = Start a } ∷ []) ≡ told p u ++ instant_act a n ∷ []
@@ -201,9 +202,9 @@ module _ (p : Problem) (plain : IsInstant p) where
       let k : ℕ = cond b (groups u + 1) (groups u) - 1 in
       let y : Act = record { action = a; opens = k; closes = cond (is_durative p a) None (Some k) } in
       let zero_more : 0 + groups u ≡ groups u = omega arith in
-      ap (map (timed_act one_by_one)) (acts-append p 0 u (record { fresh = b; item = Start a } ∷ []) [] ∙ ap (λ j. with_act p (cond b (j + 1) j - 1) (Start a) xs) zero_more)
-      ∙ map-append (timed_act one_by_one) xs (y ∷ [])
-      ∙ ap (λ z. map (timed_act one_by_one) xs ++ z ∷ []) (act_of_start a n k e)
+      ap (map (timed_act consecutive)) (acts-append p 0 u (record { fresh = b; item = Start a } ∷ []) [] ∙ ap (λ j. with_act p (cond b (j + 1) j - 1) (Start a) xs) zero_more)
+      ∙ map-append (timed_act consecutive) xs (y ∷ [])
+      ∙ ap (λ z. map (timed_act consecutive) xs ++ z ∷ []) (act_of_start a n k e)
 
   abbrev pub Told : List Mark → Type 0
   Told w = Tells p w (progress p w).group (groups w) (told p w)
@@ -234,7 +235,7 @@ module _ (p : Problem) (plain : IsInstant p) where
   told-mark : (u : List Mark) (b : Bool) (i : Item) → Quiet (progress p u) → IsTrue (may_follow p (progress p u) (record { fresh = b; item = i })) → Told u → Told (u ++ record { fresh = b; item = i } ∷ [])
   told-mark u true i q h t =
       let a : (a : ℕ) × (i ≡ Start a) × (nat_lt a (length p.actions) ≡ true) = only_starts p plain (past_group p (progress p u)) i (quiet-past p plain (progress p u) q) (opens_of (progress p u) i h) in
-      let group : (progress p (u ++ record { fresh = true; item = Start a.0 } ∷ [])).group ≡ Start a.0 ∷ [] = ap (λ c. c.group) (read-append p (at_start p) u (record { fresh = true; item = Start a.0 } ∷ [])) in
+      let group : (progress p (u ++ record { fresh = true; item = Start a.0 } ∷ [])).group ≡ Start a.0 ∷ [] = ap (λ c. c.group) (read_on-append p (at_start p) u (record { fresh = true; item = Start a.0 } ∷ [])) in
       let count : groups (u ++ record { fresh = true; item = Start a.0 } ∷ []) ≡ suc (groups u) = omega (arith, groups-append u (record { fresh = true; item = Start a.0 } ∷ [])) in
       let acts : told p (u ++ record { fresh = true; item = Start a.0 } ∷ []) ≡ told p u ++ instant_act a.0 (groups u) ∷ [] = told-more u true a.0 (groups u) (omega arith) in
       subst (λ j. Told (u ++ record { fresh = true; item = j } ∷ [])) (sym a.1)
@@ -249,7 +250,7 @@ module _ (p : Problem) (plain : IsInstant p) where
       let opened : 0 < groups u = t.opened (not_empty (is_empty c.group) (joins_of c i h).0) in
       let g : ℕ = groups u - 1 in
       let was : suc g ≡ groups u = omega (arith, opened) in
-      let group : (progress p (u ++ record { fresh = false; item = Start a.0 } ∷ [])).group ≡ c.group ++ Start a.0 ∷ [] = ap (λ d. d.group) (read-append p (at_start p) u (record { fresh = false; item = Start a.0 } ∷ [])) in
+      let group : (progress p (u ++ record { fresh = false; item = Start a.0 } ∷ [])).group ≡ c.group ++ Start a.0 ∷ [] = ap (λ d. d.group) (read_on-append p (at_start p) u (record { fresh = false; item = Start a.0 } ∷ [])) in
       let count : groups (u ++ record { fresh = false; item = Start a.0 } ∷ []) ≡ suc g = omega (arith, groups-append u (record { fresh = false; item = Start a.0 } ∷ []), was) in
       let acts : told p (u ++ record { fresh = false; item = Start a.0 } ∷ []) ≡ told p u ++ instant_act a.0 g ∷ [] = told-more u false a.0 g refl in
       let above : list_all (λ j. item_before j (Start a.0)) c.group ≡ true = subst (λ k. list_all (λ j. item_before j k) c.group ≡ true) a.1 (only_left c.group (behind_all c i joins)) in
@@ -271,7 +272,7 @@ module _ (p : Problem) (plain : IsInstant p) where
   told-on u [] q r t = subst Told (sym (append-nil u)) t
   told-on u (m ∷ v) q r t =
       let u' : List Mark = u ++ m ∷ [] in
-      let read : progress p u' ≡ read_mark p (progress p u) m = read-append p (at_start p) u (m ∷ []) in
+      let read : progress p u' ≡ read_mark p (progress p u) m = read_on-append p (at_start p) u (m ∷ []) in
       subst Told (append_assoc u (m ∷ []) v)
       (told-on u' v (subst Quiet (sym read) (still m.fresh m.item)) (subst (λ c. Follow p c v) (sym read) r.1) (told-mark u m.fresh m.item q r.0 t))
     where
