@@ -10,7 +10,7 @@ use Rattle.tp_spec.specs.declared.plan.Mark.{Mark}
 use Rattle.tp_spec.specs.declared.plan.Timed.{Timed}
 use Rattle.tp_spec.specs.declared.problem.Problem.{Problem}
 use Rattle.tp_spec.specs.Lists.{is_empty, each_pair}
-use Rattle.tp_spec.specs.States.{State, initial}
+use Rattle.tp_spec.specs.States.{State}
 use Rattle.tp_spec.specs.Items.{own, after, has_after, next, effects_of, item_before}
 use Rattle.tp_spec.specs.Interference.{interfere}
 use Rattle.tp_spec.specs.Courses.{happening, state_before}
