@@ -2,7 +2,7 @@
 use Rattle.std.proofs.Common.{◌≡◌, refl, sym, ap, subst, ◌∙◌, ℕ, zero, suc, ◌+◌, ◌-◌, ◌<◌, ◌≤◌, ◌==◌, ◌⊎◌, inl, inr, Bool, true, false, not, ◌&&◌, ◌||◌, cond, List, [], ◌∷◌, ◌++◌, map, length, Some, None, arith, IsTrue, nat_lt, append_assoc, append-nil}
 use Rattle.std.specs.List.{AllByRecursion as Each, list_all, range_with_len}
 use Rattle.std.proofs.lemmas.Bool.{and_parts, and_from, or_right, false≢true, eqb-true, eq-eqb, lt-ltb, ltb-true}
-use Rattle.std.proofs.lemmas.List.{map-append}
+use Rattle.std.proofs.lemmas.List.{length-append, length-map, map-append}
 use Rattle.std.proofs.lemmas.List.Folds.{list_any-append}
 use Rattle.tp_spec.specs.declared.plan.Item.{Item}
 use Rattle.tp_spec.specs.declared.plan.Item.TheVariants.{Start}
@@ -44,6 +44,7 @@ pub record Placed (p : Problem) (n : ℕ) (group : List Item) (x : Timed) : Type
 -- acts spell a word of n groups, the last of which is as given
 pub record Tells (p : Problem) (w : List Mark) (group : List Item) (n : ℕ) (acts : List Timed) : Type 0 where
   pub word : spelled p acts n ≡ w
+  pub counted : length acts ≡ length w
   pub last : (g : ℕ) → suc g ≡ n → happening p acts g ≡ group
   pub some : (g : ℕ) → suc g ≡ n → is_empty group ≡ false
   pub opened : is_empty group ≡ false → 0 < n
@@ -144,6 +145,7 @@ module _ (p : Problem) (plain : IsInstant p) where
       let before : spelled p (acts ++ instant_act a n ∷ []) n ≡ w = spelled-other acts (instant_act a n) n (omega arith) ∙ t.word in
       record {
         word = λ i. before i ++ marked (here i);
+        counted = omega (arith, length-append acts (instant_act a n ∷ []), length-append w (record { fresh = true; item = Start a } ∷ []), t.counted);
         last = λ g e. let same : g ≡ n = omega (arith, e) in ap (happening p (acts ++ instant_act a n ∷ [])) same ∙ here;
         some = λ g e. refl;
         opened = λ e. omega arith;
@@ -172,6 +174,7 @@ module _ (p : Problem) (plain : IsInstant p) where
             ∙ ap (λ ms. spelled p acts g ++ ms) (marked-more group (Start a) (t.some g refl))
             ∙ sym (append_assoc (spelled p acts g) (marked group) (joining (Start a) ∷ []))
             ∙ ap (λ u. u ++ joining (Start a) ∷ []) whole;
+        counted = omega (arith, length-append acts (instant_act a g ∷ []), length-append w (record { fresh = false; item = Start a } ∷ []), t.counted);
         last = λ h e. let same : h ≡ g = omega (arith, e) in ap (happening p (acts ++ instant_act a g ∷ [])) same ∙ here;
         some = λ h e. grown group (Start a);
         opened = λ e. omega arith;
@@ -212,6 +215,7 @@ module _ (p : Problem) (plain : IsInstant p) where
   told-start : Told []
   told-start = record {
     word = refl;
+    counted = refl;
     last = λ g e. absurd (omega (arith, e));
     some = λ g e. absurd (omega (arith, e));
     opened = λ e. absurd (false≢true (sym e));
@@ -282,3 +286,7 @@ module _ (p : Problem) (plain : IsInstant p) where
 
   pub told-sound : (w : List Mark) → Sound p w → Told w
   told-sound w sound = told-on [] w (λ a. refl) sound.follows told-start
+
+  -- each mark is a start
+  pub starts-count : (w : List Mark) → Sound p w → length (acts_of p w) ≡ length w
+  starts-count w sound = sym (length-map (acts_of p w) (timed_act consecutive)) ∙ (told-sound w sound).counted

@@ -1,5 +1,5 @@
 -- Laws that tie words to ticks on plain problems, before the clock moves.
-use Rattle.std.specs.Prelude.{◌≡◌, ◌↔◌, ℕ, ◌+◌, ◌≤◌, ◌==◌, not, List, [], length, IsTrue}
+use Rattle.std.specs.Prelude.{◌≡◌, ◌↔◌, ℕ, ◌+◌, ◌≤◌, ◌==◌, not, List, [], ◌∷◌, ◌++◌, length, IsTrue}
 use Rattle.tp_spec.specs.declared.event.Event.TheVariants.{Expand}
 use Rattle.tp_spec.specs.declared.plan.Limits.{Limits}
 use Rattle.tp_spec.specs.declared.plan.Mark.{Mark}
@@ -11,7 +11,7 @@ use Rattle.tp_spec.specs.Machine.{Machine, ExpandIsLegal, IsCovered, rank, step}
 use Rattle.tp_spec.specs.Plain.{is_plain}
 use Rattle.tp_spec.specs.Schedules.{Schedule, Live, IsLeast, plan_of}
 use Rattle.tp_spec.specs.WellFormed.{IsWellFormed}
-use Rattle.tp_spec.specs.Words.{Sound, groups, acts_of, spell}
+use Rattle.tp_spec.specs.Words.{Sound, groups, acts_of, may_follow, progress, spell}
 
 -- a well-formed problem that is plain
 pub record IsPlain (p : Problem) : Type 0 where
@@ -40,6 +40,14 @@ OfPlain Holds = (p : Problem) (l : Limits) → IsPlain p → Holds p l
 -- A sound word is live exactly where it is short.
 abbrev pub LiveWhereShort : Problem → Limits → Type 0
 LiveWhereShort p l = (w : List Mark) → Sound p w → Live p l 0 [] w ↔ IsShort p l w
+
+-- A mark keeps a live word live exactly where it may follow and the word stays short.
+abbrev pub LiveByMark : Problem → Limits → Type 0
+LiveByMark p l = (w : List Mark) (a : Mark) → Live p l 0 [] w → Live p l 0 [] (w ++ a ∷ []) ↔ (IsTrue (may_follow p (progress p w) a) × IsShort p l (w ++ a ∷ []))
+
+-- Each mark of a sound word is a start.
+abbrev pub MarksAreStarts : Problem → Limits → Type 0
+MarksAreStarts p l = (w : List Mark) → Sound p w → length (acts_of p w) ≡ length w
 
 -- The least schedule of a live word has its groups at consecutive ticks from 0 on.
 abbrev pub LeastIsConsecutive : Problem → Limits → Type 0

@@ -1,4 +1,4 @@
-ghost use Rattle.tp_laws.specs.Early.{IsPlain, OfPlain, LiveWhereShort, LeastIsConsecutive, FrontsAreLive, ExpandKeepsCovered, LeastPlanHasWord, LeastPlanIsPossible};
+ghost use Rattle.tp_laws.specs.Early.{IsPlain, OfPlain, LiveWhereShort, LeastIsConsecutive, LiveByMark, MarksAreStarts, FrontsAreLive, ExpandKeepsCovered, LeastPlanHasWord, LeastPlanIsPossible};
 ghost use Rattle.tp_laws.specs.Examples.{lamp, arch};
 
 /// On a plain problem exactly the short sound words are live, and the least schedule of one has its groups at the ticks
@@ -6,6 +6,13 @@ ghost use Rattle.tp_laws.specs.Examples.{lamp, arch};
 pub fn live_words()
     ensures live { OfPlain LiveWhereShort }
     ensures least { OfPlain LeastIsConsecutive }
+{}
+
+/// On a plain problem the live marks after a live word are those that may follow and keep it short, and each mark is a
+/// start.
+pub fn live_marks()
+    ensures live { OfPlain LiveByMark }
+    ensures starts { OfPlain MarksAreStarts }
 {}
 
 /// On a plain problem each front of a possible plan's word is live, so that a node for each live mark after a word
