@@ -1,7 +1,7 @@
 -- Each front of the word of a possible plan is live.
-use Rattle.std.proofs.Common.{◌≡◌, refl, sym, ap, subst, ◌∙◌, ℕ, zero, suc, ◌+◌, ◌-◌, ◌<◌, ◌≤◌, ◌==◌, Bool, true, false, not, ◌&&◌, ◌||◌, cond, List, [], ◌∷◌, ◌++◌, map, length, Option, Some, None, arith, rules, IsTrue, IsSome, nat_lt, append_assoc, append-nil, slice_get}
-use Rattle.std.specs.List.{AllByRecursion as Each, list_any, list_all, filter, range_with_len}
-use Rattle.std.proofs.lemmas.Bool.{and_parts, and_from, false≢true, ltb-true, lt-ltb, eqb-true}
+use Rattle.std.proofs.Common.{◌≡◌, refl, sym, ap, subst, ◌∙◌, ℕ, zero, suc, ◌+◌, ◌-◌, ◌≤◌, ◌==◌, Bool, true, false, not, cond, List, [], ◌∷◌, map, length, Option, Some, None, arith, IsSome, nat_lt}
+use Rattle.std.specs.List.{AllByRecursion as Each, list_all, filter, range_with_len}
+use Rattle.std.proofs.lemmas.Bool.{and_parts, lt-ltb}
 use Rattle.std.proofs.lemmas.Bool.Decides.{nat_tests}
 use Rattle.std.proofs.lemmas.List.{length-append, length-map}
 use Rattle.tp_spec.specs.declared.plan.Item.{Item}
@@ -11,23 +11,20 @@ use Rattle.tp_spec.specs.declared.plan.Mark.{Mark}
 use Rattle.tp_spec.specs.declared.plan.Plan.{Plan}
 use Rattle.tp_spec.specs.declared.plan.Timed.{Timed}
 use Rattle.tp_spec.specs.declared.problem.Problem.{Problem}
-use Rattle.tp_spec.specs.Lists.{BeginsWith, each_pair, some_and}
+use Rattle.tp_spec.specs.Lists.{BeginsWith, some_and}
 use Rattle.tp_spec.specs.States.{State}
 use Rattle.tp_spec.specs.Items.{own, item_before, is_durative}
 use Rattle.tp_spec.specs.Interference.{interfere}
 use Rattle.tp_spec.specs.Courses.{Valid, Possible, Passes, happening, state_before}
-use Rattle.tp_spec.specs.Words.{Act, Sound, Follow, at_start, groups, acts_of, acts_from, with_act, ended, marked, joining, spelled, spell}
+use Rattle.tp_spec.specs.Words.{Act, Sound, Follow, at_start, groups, acts_from, with_act, ended, marked, joining, spelled, spell}
 use Rattle.tp_spec.specs.Schedules.{Live}
-use Rattle.tp_laws.specs.Early.{IsShort, one_by_one}
+use Rattle.tp_laws.specs.Early.{IsShort, consecutive}
+use Rattle.tp_laws.proofs.Ends.{groups-append}
 use Rattle.tp_laws.proofs.EarlyPlain.{IsInstant}
 use Rattle.tp_laws.proofs.EarlyLists.{Rising, pair-both, filter-both, filter-fewer}
 use Rattle.tp_laws.proofs.EarlyStarts.{started, starts_at, started-rises, starts-rise, few-started, happening-starts}
 use Rattle.tp_laws.proofs.EarlyReading.{Chain, MayStart, chain-from, sound-spelled, follow-front}
 use Rattle.tp_laws.proofs.EarlyLive.{schedule-short}
-
-pub groups-append : (u v : List Mark) → groups (u ++ v) ≡ groups u + groups v
-groups-append [] v = omega arith
-groups-append (m ∷ u) v = omega (arith, groups-append u v)
 
 groups-marked : (is : List Item) → groups (marked is) ≤ 1
 groups-marked [] = omega arith
@@ -131,4 +128,4 @@ module _ (p : Problem) (plain : IsInstant p) where
         );
         opened = omega (arith, groups-append front rest, ap groups begins.is, groups-spelled p plan.acts (suc plan.end), valid.within);
       } in
-      record { sound = sound; schedule = one_by_one; is = schedule-short p plain l front sound short }
+      record { sound = sound; schedule = consecutive; is = schedule-short p plain l front sound short }

@@ -1,7 +1,7 @@
 -- Lists by recursion: members, and lists that rise.
-use Rattle.std.proofs.Common.{◌≡◌, refl, sym, ap, subst, ◌∙◌, ℕ, zero, suc, length, map, ◌+◌, ◌<◌, ◌≤◌, ◌==◌, Bool, true, false, ◌||◌, ◌&&◌, List, [], ◌∷◌, ◌++◌, ◌⊎◌, inl, inr, arith, nat_lt, cond}
+use Rattle.std.proofs.Common.{◌≡◌, refl, sym, ap, subst, ◌∙◌, ℕ, zero, suc, length, map, ◌+◌, ◌<◌, ◌≤◌, ◌==◌, Bool, true, false, ◌||◌, ◌&&◌, List, [], ◌∷◌, ◌++◌, inl, inr, arith, nat_lt, cond}
 use Rattle.std.specs.List.{AllByRecursion as Each, filter, list_all, range_with_len}
-use Rattle.std.proofs.lemmas.Bool.{false≢true, and_parts, and_from, and_right, lt-ltb, ltb-true, ltb-false, eqb-true, eqb-false}
+use Rattle.std.proofs.lemmas.Bool.{and_parts, and_from, and_right, lt-ltb, ltb-true, ltb-false, eqb-true, eqb-false}
 use Rattle.tp_spec.specs.Lists.{IsIn, each_pair, each_next}
 
 -- what holds of each holds of one

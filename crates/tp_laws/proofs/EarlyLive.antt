@@ -1,6 +1,6 @@
 -- A sound word of instant actions is live where its starts and its groups are few enough, and only there.
-use Rattle.std.proofs.Common.{◌≡◌, refl, sym, ap, subst, ◌∙◌, ℕ, zero, suc, ◌+◌, ◌-◌, ◌<◌, ◌≤◌, Bool, true, false, not, ◌&&◌, ◌||◌, cond, List, [], ◌∷◌, ◌++◌, length, Option, Some, None, arith, rules, IsTrue, nat_lt, IfSome, slice_get}
-use Rattle.std.specs.List.{AllByRecursion as Each, list_any, list_all}
+use Rattle.std.proofs.Common.{◌≡◌, refl, sym, ap, subst, ◌∙◌, ℕ, zero, suc, ◌+◌, ◌-◌, ◌<◌, ◌≤◌, Bool, true, false, not, ◌&&◌, ◌||◌, cond, List, [], ◌∷◌, length, Option, Some, None, arith, IsTrue, nat_lt, IfSome, slice_get}
+use Rattle.std.specs.List.{AllByRecursion as Each, list_any}
 use Rattle.std.proofs.lemmas.Bool.{and_parts, false≢true, and_right, le-ltb}
 use Rattle.tp_spec.specs.declared.plan.Item.{Item}
 use Rattle.tp_spec.specs.declared.plan.Item.TheVariants.{TimedAt, End, Start}
@@ -9,11 +9,10 @@ use Rattle.tp_spec.specs.declared.plan.Mark.{Mark}
 use Rattle.tp_spec.specs.declared.problem.Problem.{Problem}
 use Rattle.tp_spec.specs.declared.problem.TimedItem.{TimedItem}
 use Rattle.tp_spec.specs.Lists.{is_empty, IsIn}
-use Rattle.tp_spec.specs.Items.{is_durative}
 use Rattle.tp_spec.specs.Courses.{in_range}
-use Rattle.tp_spec.specs.Words.{Progress, Act, acts_of, acts_from, with_act, groups, timed_of, Sound, Follow, may_follow, may_join, in_turn, past_group, with_item, read_mark, at_start, is_start_of, is_end_of}
-use Rattle.tp_spec.specs.Schedules.{Live, Schedule, IsSchedule, IsInLength, IsLeast, finish}
-use Rattle.tp_laws.specs.Early.{IsShort, one_by_one}
+use Rattle.tp_spec.specs.Words.{Progress, Act, acts_of, acts_from, with_act, groups, timed_of, Sound, Follow, may_follow, in_turn, past_group, with_item, read_mark, at_start, is_start_of, is_end_of}
+use Rattle.tp_spec.specs.Schedules.{Schedule, IsSchedule, IsInLength, IsLeast, finish}
+use Rattle.tp_laws.specs.Early.{IsShort, consecutive}
 use Rattle.tp_laws.proofs.EarlyPlain.{IsInstant}
 use Rattle.tp_laws.proofs.EarlyLists.{each-in, each-map, each-push}
 
@@ -93,9 +92,9 @@ module _ (p : Problem) (plain : IsInstant p) where
     short-in : (a : Act) → IsIn a (acts_of p w) → Short (groups w) a
     short-in a i = each-in (Short (groups w)) (acts_of p w) a (acts-short w sound) i
 
-    in_length : IsShort p l w → (a : Act) → Short (groups w) a → IsInLength p l one_by_one a
+    in_length : IsShort p l w → (a : Act) → Short (groups w) a → IsInLength p l consecutive a
     in_length few a h =
-        let e : finish one_by_one a ≡ a.opens = finish-short one_by_one (groups w) a h in
+        let e : finish consecutive a ≡ a.opens = finish-short consecutive (groups w) a h in
         record {
           forward = omega (arith, e);
           allowed = subst (λ n. IsTrue (in_range p a.action n)) (omega (arith, e)) h.ranged;
@@ -113,7 +112,7 @@ module _ (p : Problem) (plain : IsInstant p) where
     timed_at None k = tt
     timed_at (Some g) k = untimed k (λ i. g ≡ i.tick)
 
-    pub schedule-short : IsShort p l w → IsSchedule p l 0 [] w one_by_one
+    pub schedule-short : IsShort p l w → IsSchedule p l 0 [] w consecutive
     schedule-short few = record {
       rises = λ g b. omega (arith, b);
       within = λ g b. omega (arith, b, few.opened);
@@ -137,7 +136,7 @@ module _ (p : Problem) (plain : IsInstant p) where
       few_groups zero e = omega arith
       few_groups (suc g) e = omega (arith, no-earlier x is g (omega (arith, e)), is.within g (omega (arith, e)))
 
-    pub least-short : (x : Schedule) → IsSchedule p l 0 [] w x → IsLeast p l 0 [] w one_by_one
+    pub least-short : (x : Schedule) → IsSchedule p l 0 [] w x → IsLeast p l 0 [] w consecutive
     least-short x is = record {
       is = schedule-short (short-schedule x is);
       first = λ y s. record { ticks = no-earlier y s; ends = λ a i e. absurd (never-open (groups w) a (short-in a i) e) };

@@ -1,5 +1,5 @@
 -- What a plain problem gives: actions are instant, and nothing is timed.
-use Rattle.std.proofs.Common.{◌≡◌, refl, sym, ap, subst, ◌∙◌, ℕ, zero, suc, ◌<◌, ◌≤◌, Bool, true, false, not, ◌&&◌, List, [], ◌∷◌, length, Option, Some, None, arith, rules, nat_lt, slice_get}
+use Rattle.std.proofs.Common.{◌≡◌, refl, sym, ap, subst, ◌∙◌, ℕ, zero, suc, Bool, true, false, not, List, [], ◌∷◌, length, arith, nat_lt, slice_get}
 use Rattle.std.specs.List.{list_all}
 use Rattle.std.proofs.lemmas.Bool.{and_parts, and_from, false≢true, le-ltb, lt-ltb, ltb-true}
 use Rattle.std.proofs.lemmas.List.Folds.{list_all-append}
@@ -7,7 +7,6 @@ use Rattle.tp_spec.specs.declared.problem.Action.{Action}
 use Rattle.tp_spec.specs.declared.problem.Kind.{Kind}
 use Rattle.tp_spec.specs.declared.problem.Kind.TheVariants.{Instant, Durative}
 use Rattle.tp_spec.specs.declared.problem.Problem.{Problem}
-use Rattle.tp_spec.specs.declared.problem.TimedItem.{TimedItem}
 use Rattle.tp_spec.specs.Lists.{is_empty, some_and, part_of}
 use Rattle.tp_spec.specs.declared.plan.Item.{Item}
 use Rattle.tp_spec.specs.declared.plan.Item.TheVariants.{TimedAt, End, Start}
@@ -17,7 +16,7 @@ use Rattle.tp_spec.specs.States.{State}
 use Rattle.tp_spec.specs.Items.{is_durative, is_durative_kind, effects, effects_of, timed_effects, fits_new, next, has_after}
 use Rattle.tp_spec.specs.WellFormed.{is_effect, are_effects, is_action}
 use Rattle.tp_spec.specs.Courses.{in_range, allows_length}
-use Rattle.tp_spec.specs.Plain.{is_plain, is_plain_action}
+use Rattle.tp_spec.specs.Plain.{is_plain_action}
 use Rattle.tp_laws.specs.Early.{IsPlain}
 
 -- every action is instant, and there are no timed items

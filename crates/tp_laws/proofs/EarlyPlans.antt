@@ -1,8 +1,8 @@
 -- A live word after which every goal part holds is the word of a possible plan: its acts, group k at tick k.
-use Rattle.std.proofs.Common.{◌≡◌, refl, sym, ap, subst, ◌∙◌, ℕ, zero, suc, ◌+◌, ◌-◌, ◌<◌, ◌≤◌, ◌==◌, ◌⊎◌, inl, inr, Bool, true, false, not, ◌&&◌, ◌||◌, cond, List, [], ◌∷◌, ◌++◌, map, length, Option, Some, None, arith, rules, IsTrue, IsSome, nat_lt, nat_le, append_assoc, append-nil}
-use Rattle.std.specs.List.{AllByRecursion as Each, list_any, list_all, filter, count_by}
+use Rattle.std.proofs.Common.{◌≡◌, refl, sym, ap, subst, ◌∙◌, ℕ, zero, suc, ◌+◌, ◌-◌, ◌<◌, ◌≤◌, ◌==◌, ◌⊎◌, inl, inr, Bool, true, false, not, ◌&&◌, ◌||◌, cond, List, [], ◌∷◌, ◌++◌, map, length, Option, Some, None, arith, IsSome, nat_lt, nat_le, append-nil}
+use Rattle.std.specs.List.{AllByRecursion as Each, list_all, count_by}
 use Rattle.std.specs.Option.{option_and_then}
-use Rattle.std.proofs.lemmas.Bool.{and_parts, and_from, or_right, false≢true, eqb-true, eqb-false, eq-eqb, lt-ltb, ltb-true, ltb-false, le-leb}
+use Rattle.std.proofs.lemmas.Bool.{and_parts, and_from, or_right, eqb-true, eq-eqb, lt-ltb, ltb-true, le-leb}
 use Rattle.std.proofs.lemmas.Bool.Decides.{nat_tests}
 use Rattle.std.proofs.lemmas.List.{length-map}
 use Rattle.std.proofs.lemmas.List.Folds.{sum_by-zero}
@@ -10,23 +10,22 @@ use Rattle.tp_spec.specs.declared.plan.Item.{Item}
 use Rattle.tp_spec.specs.declared.plan.Item.TheVariants.{Start}
 use Rattle.tp_spec.specs.declared.plan.Limits.{Limits}
 use Rattle.tp_spec.specs.declared.plan.Mark.{Mark}
-use Rattle.tp_spec.specs.declared.plan.Plan.{Plan}
 use Rattle.tp_spec.specs.declared.plan.Timed.{Timed}
-use Rattle.tp_spec.specs.declared.problem.Cond.{Cond}
 use Rattle.tp_spec.specs.declared.problem.Problem.{Problem}
 use Rattle.tp_spec.specs.Lists.{is_empty, each_pair, some_and, IsIn}
 use Rattle.tp_spec.specs.States.{State, holds}
-use Rattle.tp_spec.specs.Items.{own, after, has_after, next, effects_of, invariants, item_before}
+use Rattle.tp_spec.specs.Items.{own, after, next, effects_of, invariants}
 use Rattle.tp_spec.specs.Interference.{interfere}
 use Rattle.tp_spec.specs.Courses.{Valid, Possible, Passes, happening, state_before, keeps_invariants, runs_at, act_before, in_range}
 use Rattle.tp_spec.specs.Words.{Act, Progress, Sound, Follow, progress, state_past, at_start, groups, acts_of, marked, spelled, spell}
 use Rattle.tp_spec.specs.Schedules.{Schedule, IsLeast, finish, plan_of, timed_act, last_tick}
 use Rattle.tp_spec.specs.Machine.{rank}
-use Rattle.tp_laws.specs.Early.{IsShort, one_by_one}
+use Rattle.tp_laws.specs.Early.{IsShort, consecutive}
+use Rattle.tp_laws.proofs.Readings.{state_before-spelled}
 use Rattle.tp_laws.proofs.EarlyPlain.{IsInstant}
 use Rattle.tp_laws.proofs.EarlyLists.{each-map, map-same, true-each, pair-from, next-from}
 use Rattle.tp_laws.proofs.EarlyLive.{Short, acts-short, finish-short, no-earlier, least-short}
-use Rattle.tp_laws.proofs.EarlyReading.{good, chain-to, marked-follow, spelled-front, before-spelled, follow-front, follow-back}
+use Rattle.tp_laws.proofs.EarlyReading.{good, chain-to, marked-follow, spelled-front, follow-front, follow-back}
 use Rattle.tp_laws.proofs.EarlyTold.{Tells, Placed, earlier, told, none-behind, told-sound}
 
 earlier_cases : (x y : Timed) → earlier x y ≡ true → (x.start < y.start) ⊎ ((x.start ≡ y.start) × (x.action < y.action))
@@ -70,7 +69,7 @@ module _ (p : Problem) (plain : IsInstant p) where
     then (Some s) h = subst (λ b. IsSome (cond b (Some (next s (effects_of p (happening p acts t)))) None)) (sym (plain.lasting s (happening p acts t))) refl
 
   state_at : (acts : List Timed) (t : ℕ) → state_before p acts t ≡ Some (state_past p (progress p (spelled p acts t)))
-  state_at acts t = before-spelled p acts t (λ k b. always acts k)
+  state_at acts t = state_before-spelled p acts t (λ k b. always acts (suc k))
 
   only_apart : (is : List Item) → each_pair (good p) is ≡ true → each_pair (λ i j. not (interfere p i j)) is ≡ true
   only_apart [] h = refl
@@ -103,15 +102,15 @@ module _ (p : Problem) (plain : IsInstant p) where
       }
 
   -- the word of the acts up to the last group
-  pub spell-last : (w : List Mark) (group : List Item) (n : ℕ) (acts : List Timed) → Tells p w group n acts → spelled p acts (suc (last_tick one_by_one n)) ≡ w
+  pub spell-last : (w : List Mark) (group : List Item) (n : ℕ) (acts : List Timed) → Tells p w group n acts → spelled p acts (suc (last_tick consecutive n)) ≡ w
   spell-last w group zero acts t = (λ i. t.word i ++ marked (none-behind p plain w group zero acts t i)) ∙ append-nil w
   spell-last w group (suc g) acts t = t.word
 
-  closing_at : (w : List Mark) (group : List Item) (n : ℕ) (acts : List Timed) → Tells p w group n acts → (last_tick one_by_one n == 0 || not (is_empty (happening p acts (last_tick one_by_one n)))) ≡ true
+  closing_at : (w : List Mark) (group : List Item) (n : ℕ) (acts : List Timed) → Tells p w group n acts → (last_tick consecutive n == 0 || not (is_empty (happening p acts (last_tick consecutive n)))) ≡ true
   closing_at w group zero acts t = refl
   closing_at w group (suc g) acts t = or_right (g == 0) _ (ap (λ is. not (is_empty is)) (t.last g refl) ∙ ap not (t.some g refl))
 
-  ended_by : (n : ℕ) (group : List Item) (x : Timed) → Placed p n group x → nat_le (x.start + x.length) (last_tick one_by_one n) ≡ true
+  ended_by : (n : ℕ) (group : List Item) (x : Timed) → Placed p n group x → nat_le (x.start + x.length) (last_tick consecutive n) ≡ true
   ended_by zero group x h = absurd (by_place h.in_groups) where
     by_place : (suc x.start < 0) ⊎ ((suc x.start ≡ 0) × IsIn (Start x.action) group) → ⊥
     by_place (inl b) = omega (arith, b)
@@ -121,7 +120,7 @@ module _ (p : Problem) (plain : IsInstant p) where
     by_place (inl b) = omega (arith, b, h.at_once)
     by_place (inr e) = omega (arith, e.0, h.at_once)
 
-  within_of : (l : Limits) (n : ℕ) → n ≤ l.horizon + 1 → last_tick one_by_one n ≤ l.horizon
+  within_of : (l : Limits) (n : ℕ) → n ≤ l.horizon + 1 → last_tick consecutive n ≤ l.horizon
   within_of l zero le = omega arith
   within_of l (suc g) le = omega (arith, le)
 
@@ -144,13 +143,13 @@ module _ (p : Problem) (plain : IsInstant p) where
     tells : Tells p w (progress p w).group (groups w) (told p w)
     tells = told-sound p plain w sound
 
-    pub spell-plan : spell p (plan_of p w one_by_one) ≡ w
+    pub spell-plan : spell p (plan_of p w consecutive) ≡ w
     spell-plan = spell-last w (progress p w).group (groups w) (told p w) tells
 
     abbrev end_tick : ℕ
-    end_tick = last_tick one_by_one (groups w)
+    end_tick = last_tick consecutive (groups w)
 
-    pub plan-valid : IsShort p l w → rank p w ≡ 0 → Valid p l (plan_of p w one_by_one)
+    pub plan-valid : IsShort p l w → rank p w ≡ 0 → Valid p l (plan_of p w consecutive)
     plan-valid few done =
         let acts : List Timed = told p w in
         let group : List Item = (progress p w).group in
@@ -158,7 +157,7 @@ module _ (p : Problem) (plain : IsInstant p) where
         let follow : Follow p (at_start p) (spelled p acts (suc end_tick)) = subst (Follow p (at_start p)) (sym spell-plan) sound.follows in
         record {
           in_order = next-from earlier act_before acts tells.rises in_order;
-          few = omega (arith, few.starts, length-map (acts_of p w) (timed_act one_by_one));
+          few = omega (arith, few.starts, length-map (acts_of p w) (timed_act consecutive));
           once = pair-from earlier (λ x y. not (x.action == y.action && x.start == y.start)) (λ x. x.length ≡ 0) acts tells.rises short (λ x y e h. once x y h);
           lengths = true-each (λ x. in_range p x.action x.length) acts (each-map (Placed p (groups w) group) (λ x. in_range p x.action x.length ≡ true) acts (λ x h. ap (in_range p x.action) h.at_once ∙ h.ranged) tells.placed);
           in_turn = pair-from earlier (λ x y. not (x.action == y.action) || nat_le (x.start + x.length) y.start) (λ x. x.length ≡ 0) acts tells.rises short in_turn;
@@ -169,7 +168,7 @@ module _ (p : Problem) (plain : IsInstant p) where
           goal = subst (λ o. some_and o (λ s. list_all (holds s) p.goal) ≡ true) (sym (state_at acts (suc end_tick) ∙ ap (λ v. Some (state_past p (progress p v))) spell-plan)) (goal_of w done);
         }
 
-    pub plan-possible : IsShort p l w → rank p w ≡ 0 → Possible p l 0 [] (plan_of p w one_by_one)
+    pub plan-possible : IsShort p l w → rank p w ≡ 0 → Possible p l 0 [] (plan_of p w consecutive)
     plan-possible few done = record {
       valid = plan-valid few done;
       committed = refl;
@@ -182,20 +181,20 @@ module _ (p : Problem) (plain : IsInstant p) where
 
     -- the least schedule gives the same plan, whatever it says of groups that are not there
     same-tick : (x : Schedule) → IsLeast p l 0 [] w x → (g : ℕ) → g < groups w → x.tick g ≡ g
-    same-tick x least g b = omega (arith, (least.first one_by_one (least-short p plain l w sound x least.is).is).ticks g b, no-earlier p plain l w sound x least.is g b)
+    same-tick x least g b = omega (arith, (least.first consecutive (least-short p plain l w sound x least.is).is).ticks g b, no-earlier p plain l w sound x least.is g b)
 
-    same-act : (x : Schedule) → IsLeast p l 0 [] w x → (a : Act) → Short p plain (groups w) a → timed_act x a ≡ timed_act one_by_one a
+    same-act : (x : Schedule) → IsLeast p l 0 [] w x → (a : Act) → Short p plain (groups w) a → timed_act x a ≡ timed_act consecutive a
     same-act x least a short =
         let start : x.tick a.opens ≡ a.opens = same-tick x least a.opens short.opened in
-        let length : finish x a - x.tick a.opens ≡ finish one_by_one a - a.opens = omega (arith, finish-short p plain x (groups w) a short, finish-short p plain one_by_one (groups w) a short) in
+        let length : finish x a - x.tick a.opens ≡ finish consecutive a - a.opens = omega (arith, finish-short p plain x (groups w) a short, finish-short p plain consecutive (groups w) a short) in
         λ i. record { action = a.action; start = start i; length = length i }
 
-    same-end : (x : Schedule) → IsLeast p l 0 [] w x → (n : ℕ) → groups w ≡ n → last_tick x n ≡ last_tick one_by_one n
+    same-end : (x : Schedule) → IsLeast p l 0 [] w x → (n : ℕ) → groups w ≡ n → last_tick x n ≡ last_tick consecutive n
     same-end x least zero e = refl
     same-end x least (suc g) e = same-tick x least g (omega (arith, e))
 
-    pub same-plan : (x : Schedule) → IsLeast p l 0 [] w x → plan_of p w x ≡ plan_of p w one_by_one
+    pub same-plan : (x : Schedule) → IsLeast p l 0 [] w x → plan_of p w x ≡ plan_of p w consecutive
     same-plan x least =
-        let acts : map (timed_act x) (acts_of p w) ≡ map (timed_act one_by_one) (acts_of p w) = map-same (timed_act x) (timed_act one_by_one) (acts_of p w) (each-map (Short p plain (groups w)) (λ a. timed_act x a ≡ timed_act one_by_one a) (acts_of p w) (same-act x least) (acts-short p plain w sound)) in
-        let end : last_tick x (groups w) ≡ last_tick one_by_one (groups w) = same-end x least (groups w) refl in
+        let acts : map (timed_act x) (acts_of p w) ≡ map (timed_act consecutive) (acts_of p w) = map-same (timed_act x) (timed_act consecutive) (acts_of p w) (each-map (Short p plain (groups w)) (λ a. timed_act x a ≡ timed_act consecutive a) (acts_of p w) (same-act x least) (acts-short p plain w sound)) in
+        let end : last_tick x (groups w) ≡ last_tick consecutive (groups w) = same-end x least (groups w) refl in
         λ i. record { acts = acts i; end = end i }

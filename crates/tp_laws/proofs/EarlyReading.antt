@@ -1,37 +1,23 @@
 -- Reading a word: its parts, the states of its course, and the word of a plan.
-use Rattle.std.proofs.Common.{◌≡◌, refl, sym, ap, subst, ◌∙◌, ℕ, zero, suc, ◌+◌, ◌-◌, ◌<◌, ◌≤◌, Bool, true, false, not, ◌&&◌, ◌||◌, cond, List, [], ◌∷◌, ◌++◌, map, length, Option, Some, None, arith, rules, IsTrue, IsSome, nat_lt, append_assoc, append-nil}
+use Rattle.std.proofs.Common.{◌≡◌, refl, sym, ap, subst, ◌∙◌, ℕ, zero, suc, ◌<◌, ◌≤◌, Bool, true, false, not, ◌&&◌, ◌||◌, cond, List, [], ◌∷◌, ◌++◌, map, length, Some, None, arith, IsSome, nat_lt, append_assoc, append-nil}
 use Rattle.std.specs.List.{AllByRecursion as Each, list_any, list_all, range_with_len}
 use Rattle.std.specs.Option.{option_and_then}
 use Rattle.std.proofs.lemmas.Bool.{and_parts, and_from, false≢true, ltb-true, ltb-false}
 use Rattle.std.proofs.lemmas.List.Folds.{list_all-append}
 use Rattle.tp_spec.specs.declared.plan.Item.{Item}
-use Rattle.tp_spec.specs.declared.plan.Item.TheVariants.{TimedAt, End, Start}
+use Rattle.tp_spec.specs.declared.plan.Item.TheVariants.{Start}
 use Rattle.tp_spec.specs.declared.plan.Mark.{Mark}
 use Rattle.tp_spec.specs.declared.plan.Timed.{Timed}
 use Rattle.tp_spec.specs.declared.problem.Problem.{Problem}
 use Rattle.tp_spec.specs.Lists.{is_empty, each_pair}
-use Rattle.tp_spec.specs.States.{State, initial, holds}
-use Rattle.tp_spec.specs.Items.{own, after, has_after, next, effects_of, item_before, is_durative, invariants}
+use Rattle.tp_spec.specs.States.{State}
+use Rattle.tp_spec.specs.Items.{own, after, has_after, next, effects_of, item_before}
 use Rattle.tp_spec.specs.Interference.{interfere}
 use Rattle.tp_spec.specs.Courses.{happening, state_before}
-use Rattle.tp_spec.specs.Words.{Progress, Follow, Sound, may_follow, may_join, in_turn, closes, past_group, state_past, runs_after, keeps_running, read_mark, read_on, progress, with_item, at_start, is_end_of, marked, joining, spelled}
+use Rattle.tp_spec.specs.Words.{Progress, Follow, in_turn, closes, past_group, state_past, runs_after, read_mark, read_on, progress, with_item, at_start, is_end_of, marked, joining, spelled}
+use Rattle.tp_laws.proofs.Readings.{read_on-append, before-joining, group-joining, state_before-spelled}
 use Rattle.tp_laws.proofs.EarlyPlain.{IsInstant}
 use Rattle.tp_laws.proofs.EarlyLive.{Quiet, quiet-past}
-
--- two states that agree everywhere are one
-same_state : (s t : State) → ((f : ℕ) → s.fact f ≡ t.fact f) → ((x : ℕ) → s.fluent x ≡ t.fluent x) → s ≡ t
-same_state s t facts fluents = λ i. record { fact = λ f. facts f i; fluent = λ x. fluents x i }
-
--- nothing happens where no effects are
-pub next-none : (s : State) → next s [] ≡ s
-next-none s = same_state _ _ (λ f. keeps (s.fact f)) (λ x. refl) where
-  keeps : (b : Bool) → ((b && not false) || false) ≡ b
-  keeps true = refl
-  keeps false = refl
-
-pub read-append : (p : Problem) (c : Progress) (u v : List Mark) → read_on p c (u ++ v) ≡ read_on p (read_on p c u) v
-read-append p c [] v = refl
-read-append p c (m ∷ u) v = read-append p (read_mark p c m) u v
 
 pub follow-front : (p : Problem) (c : Progress) (u v : List Mark) → Follow p c (u ++ v) → Follow p c u
 follow-front p c [] v r = tt
@@ -44,36 +30,6 @@ follow-back p c (m ∷ u) v r = follow-back p (read_mark p c m) u v r.1
 pub follow-append : (p : Problem) (c : Progress) (u v : List Mark) → Follow p c u → Follow p (read_on p c u) v → Follow p c (u ++ v)
 follow-append p c [] v r s = s
 follow-append p c (m ∷ u) v r s = (r.0, follow-append p (read_mark p c m) u v r.1 s)
-
-before-read-joining : (p : Problem) (c : Progress) (is : List Item) → (read_on p c (map joining is)).before ≡ c.before
-before-read-joining p c [] = refl
-before-read-joining p c (i ∷ is) = before-read-joining p (with_item c i) is
-
-group-read-joining : (p : Problem) (c : Progress) (is : List Item) → (read_on p c (map joining is)).group ≡ c.group ++ is
-group-read-joining p c [] = sym (append-nil c.group)
-group-read-joining p c (i ∷ is) = group-read-joining p (with_item c i) is ∙ append_assoc c.group (i ∷ []) is
-
--- a happening's marks lead to the state after it
-past-read-marked : (p : Problem) (c : Progress) (is : List Item) → state_past p (read_on p c (marked is)) ≡ next (state_past p c) (effects_of p is)
-past-read-marked p c [] = sym (next-none (state_past p c))
-past-read-marked p c (i ∷ is) = λ k. next (before-read-joining p (with_item (past_group p c) i) is k) (effects_of p (group-read-joining p (with_item (past_group p c) i) is k))
-
-after-exists : (p : Problem) (s : State) (is : List Item) → IsSome (after p s is) → after p s is ≡ Some (next s (effects_of p is))
-after-exists p s is h = by_test (has_after p s is) h where
-  by_test : (b : Bool) → IsSome (cond b (Some (next s (effects_of p is))) None) → cond b (Some (next s (effects_of p is))) None ≡ Some (next s (effects_of p is))
-  by_test true h = refl
-  by_test false h = absurd (false≢true h)
-
--- reading a plan's word leads to the states of its course
-pub before-spelled : (p : Problem) (acts : List Timed) (t : ℕ) → ((k : ℕ) → k ≤ t → IsSome (state_before p acts k)) → state_before p acts t ≡ Some (state_past p (progress p (spelled p acts t)))
-before-spelled p acts zero ok = ap Some (sym (next-none (initial p)))
-before-spelled p acts (suc t) ok =
-    let c : Progress = progress p (spelled p acts t) in
-    let is : List Item = happening p acts t in
-    let moved : state_before p acts (suc t) ≡ after p (state_past p c) is = ap (option_and_then (λ s. after p s is)) (before-spelled p acts t (λ k b. ok k (omega (arith, b)))) in
-    moved
-    ∙ after-exists p (state_past p c) is (subst IsSome moved (ok (suc t) (omega arith)))
-    ∙ ap Some (sym (past-read-marked p c is) ∙ ap (state_past p) (sym (read-append p (at_start p) (spelled p acts t) (marked is))))
 
 -- a front of what is spelled up to a later tick
 pub spelled-front : (p : Problem) (acts : List Timed) (t n : ℕ) → t ≤ n → (rest : List Mark) × (spelled p acts n ≡ spelled p acts t ++ rest)
@@ -201,8 +157,8 @@ module _ (p : Problem) (plain : IsInstant p) where
   shut-marked c (i ∷ is) shut q h =
       let b : Progress = with_item (past_group p c) i in
       let d : Progress = read_on p b (map joining is) in
-      let from : d.before ≡ state_past p c = before-read-joining p b is in
-      let group : d.group ≡ i ∷ is = group-read-joining p b is in
+      let from : d.before ≡ state_past p c = before-joining p b is in
+      let group : d.group ≡ i ∷ is = group-joining p b is in
       shut-by d (quiet-read p plain b (map joining is) (quiet-past p plain c q))
       ((λ k. has_after p (from k) (group k)) ∙ fits-of (state_past p c) (i ∷ is) h)
 
@@ -217,9 +173,9 @@ module _ (p : Problem) (plain : IsInstant p) where
       let is : List Item = happening p acts t in
       let ok' : (k : ℕ) → k ≤ t → IsSome (state_before p acts k) = λ k b. ok k (omega (arith, b)) in
       let ih = sound-spelled acts t ok' (λ k s b. may k s (omega (arith, b))) (λ k b. order k (omega (arith, b))) in
-      let e : state_before p acts t ≡ Some (state_past p c) = before-spelled p acts t ok' in
+      let e : state_before p acts t ≡ Some (state_past p c) = state_before-spelled p acts t (λ k b. ok (suc k) (omega (arith, b))) in
       let q : Quiet c = quiet-read p plain (at_start p) w (λ a. refl) in
       let exists : IsSome (after p (state_past p c) is) = subst IsSome (ap (option_and_then (λ s. after p s is)) e) (ok (suc t) (omega arith)) in (
         follow-append p (at_start p) w (marked is) ih.0 (follow-marked c is ih.1 q (may t (state_past p c) (omega arith) e) (order t (omega arith))),
-        subst (λ d. closes p d ≡ true) (sym (read-append p (at_start p) w (marked is))) (shut-marked c is ih.1 q exists),
+        subst (λ d. closes p d ≡ true) (sym (read_on-append p (at_start p) w (marked is))) (shut-marked c is ih.1 q exists),
       )

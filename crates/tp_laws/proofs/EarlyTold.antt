@@ -1,11 +1,11 @@
 -- A sound word of instant actions is spelled by the acts that it tells, group k at tick k.
-use Rattle.std.proofs.Common.{◌≡◌, refl, sym, ap, subst, ◌∙◌, ℕ, zero, suc, ◌+◌, ◌-◌, ◌<◌, ◌≤◌, ◌==◌, ◌⊎◌, inl, inr, Bool, true, false, not, ◌&&◌, ◌||◌, cond, List, [], ◌∷◌, ◌++◌, map, length, Option, Some, None, arith, rules, IsTrue, nat_lt, append_assoc, append-nil}
-use Rattle.std.specs.List.{AllByRecursion as Each, list_any, list_all, filter, range_with_len}
-use Rattle.std.proofs.lemmas.Bool.{and_parts, and_from, or_right, false≢true, eqb-true, eqb-false, eq-eqb, lt-ltb, ltb-true, ltb-false}
-use Rattle.std.proofs.lemmas.List.{map-append}
+use Rattle.std.proofs.Common.{◌≡◌, refl, sym, ap, subst, ◌∙◌, ℕ, zero, suc, ◌+◌, ◌-◌, ◌<◌, ◌≤◌, ◌==◌, ◌⊎◌, inl, inr, Bool, true, false, not, ◌&&◌, ◌||◌, cond, List, [], ◌∷◌, ◌++◌, map, length, Some, None, arith, IsTrue, nat_lt, append_assoc, append-nil}
+use Rattle.std.specs.List.{AllByRecursion as Each, list_all, range_with_len}
+use Rattle.std.proofs.lemmas.Bool.{and_parts, and_from, or_right, false≢true, eqb-true, eq-eqb, lt-ltb, ltb-true}
+use Rattle.std.proofs.lemmas.List.{length-append, length-map, map-append}
 use Rattle.std.proofs.lemmas.List.Folds.{list_any-append}
 use Rattle.tp_spec.specs.declared.plan.Item.{Item}
-use Rattle.tp_spec.specs.declared.plan.Item.TheVariants.{TimedAt, End, Start}
+use Rattle.tp_spec.specs.declared.plan.Item.TheVariants.{Start}
 use Rattle.tp_spec.specs.declared.plan.Mark.{Mark}
 use Rattle.tp_spec.specs.declared.plan.Timed.{Timed}
 use Rattle.tp_spec.specs.declared.problem.Problem.{Problem}
@@ -13,15 +13,16 @@ use Rattle.tp_spec.specs.Lists.{is_empty, IsIn}
 use Rattle.tp_spec.specs.Items.{item_before, is_durative}
 use Rattle.tp_spec.specs.Interference.{interfere}
 use Rattle.tp_spec.specs.Courses.{happening, in_range}
-use Rattle.tp_spec.specs.Words.{Progress, Act, Sound, Follow, may_follow, may_join, in_turn, read_mark, read_on, progress, past_group, with_item, at_start, groups, acts_of, acts_from, with_act, marked, joining, spelled}
+use Rattle.tp_spec.specs.Words.{Progress, Act, Sound, Follow, may_follow, may_join, in_turn, read_mark, progress, past_group, at_start, groups, acts_of, acts_from, with_act, marked, joining, spelled}
 use Rattle.tp_spec.specs.Schedules.{timed_act, finish}
-use Rattle.tp_laws.specs.Early.{one_by_one}
+use Rattle.tp_laws.specs.Early.{consecutive}
 use Rattle.tp_laws.proofs.EarlyPlain.{IsInstant}
 use Rattle.tp_laws.proofs.EarlyLists.{Rising, in-left, in-right, each-in, each-map, each-push, each-true, rising-push, filter-same, filter-none, filter-insert}
 use Rattle.tp_laws.proofs.EarlyStarts.{starts_at, started, happening-starts}
 use Rattle.tp_laws.proofs.EarlyLive.{Quiet, quiet-past, only_starts}
-use Rattle.tp_laws.proofs.EarlyReading.{read-append, grown}
-use Rattle.tp_laws.proofs.EarlyFronts.{groups-append}
+use Rattle.tp_laws.proofs.EarlyReading.{grown}
+use Rattle.tp_laws.proofs.Readings.{read_on-append}
+use Rattle.tp_laws.proofs.Ends.{groups-append}
 
 abbrev pub instant_act : ℕ → ℕ → Timed
 instant_act a t = record { action = a; start = t; length = 0 }
@@ -32,7 +33,7 @@ earlier x y = nat_lt x.start y.start || (x.start == y.start && nat_lt x.action y
 
 -- the acts of a word, group k at tick k
 abbrev pub told : Problem → List Mark → List Timed
-told p w = map (timed_act one_by_one) (acts_of p w)
+told p w = map (timed_act consecutive) (acts_of p w)
 
 -- an act of the first n groups, in the last one where that is its tick
 pub record Placed (p : Problem) (n : ℕ) (group : List Item) (x : Timed) : Type 0 where
@@ -43,6 +44,7 @@ pub record Placed (p : Problem) (n : ℕ) (group : List Item) (x : Timed) : Type
 -- acts spell a word of n groups, the last of which is as given
 pub record Tells (p : Problem) (w : List Mark) (group : List Item) (n : ℕ) (acts : List Timed) : Type 0 where
   pub word : spelled p acts n ≡ w
+  pub counted : length acts ≡ length w
   pub last : (g : ℕ) → suc g ≡ n → happening p acts g ≡ group
   pub some : (g : ℕ) → suc g ≡ n → is_empty group ≡ false
   pub opened : is_empty group ≡ false → 0 < n
@@ -143,12 +145,13 @@ module _ (p : Problem) (plain : IsInstant p) where
       let before : spelled p (acts ++ instant_act a n ∷ []) n ≡ w = spelled-other acts (instant_act a n) n (omega arith) ∙ t.word in
       record {
         word = λ i. before i ++ marked (here i);
+        counted = omega (arith, length-append acts (instant_act a n ∷ []), length-append w (record { fresh = true; item = Start a } ∷ []), t.counted);
         last = λ g e. let same : g ≡ n = omega (arith, e) in ap (happening p (acts ++ instant_act a n ∷ [])) same ∙ here;
         some = λ g e. refl;
         opened = λ e. omega arith;
         placed = each-push (Placed p (suc n) (Start a ∷ [])) acts (instant_act a n)
-          (each-map (Placed p n group) (Placed p (suc n) (Start a ∷ [])) acts (λ x h. record { at_once = h.at_once; ranged = h.ranged; in_groups = inl (omega (arith, before-end n group x h)) }) t.placed)
-          (record { at_once = refl; ranged = plain.at_once a there; in_groups = inr (refl, inl refl) });
+            (each-map (Placed p n group) (Placed p (suc n) (Start a ∷ [])) acts (λ x h. record { at_once = h.at_once; ranged = h.ranged; in_groups = inl (omega (arith, before-end n group x h)) }) t.placed)
+            (record { at_once = refl; ranged = plain.at_once a there; in_groups = inr (refl, inl refl) });
         rises = rising-push earlier acts (instant_act a n) t.rises (each-map (Placed p n group) (λ x. earlier x (instant_act a n) ≡ true) acts (λ x h. by_start x (instant_act a n) (before-end n group x h)) t.placed);
       }
 
@@ -171,12 +174,13 @@ module _ (p : Problem) (plain : IsInstant p) where
             ∙ ap (λ ms. spelled p acts g ++ ms) (marked-more group (Start a) (t.some g refl))
             ∙ sym (append_assoc (spelled p acts g) (marked group) (joining (Start a) ∷ []))
             ∙ ap (λ u. u ++ joining (Start a) ∷ []) whole;
+        counted = omega (arith, length-append acts (instant_act a g ∷ []), length-append w (record { fresh = false; item = Start a } ∷ []), t.counted);
         last = λ h e. let same : h ≡ g = omega (arith, e) in ap (happening p (acts ++ instant_act a g ∷ [])) same ∙ here;
         some = λ h e. grown group (Start a);
         opened = λ e. omega arith;
         placed = each-push (Placed p (suc g) (group ++ Start a ∷ [])) acts (instant_act a g)
-          (each-map (Placed p (suc g) group) (Placed p (suc g) (group ++ Start a ∷ [])) acts (λ x h. record { at_once = h.at_once; ranged = h.ranged; in_groups = still x h.in_groups }) t.placed)
-          (record { at_once = refl; ranged = plain.at_once a there; in_groups = inr (refl, in-right (Start a) group (Start a ∷ []) (inl refl)) });
+            (each-map (Placed p (suc g) group) (Placed p (suc g) (group ++ Start a ∷ [])) acts (λ x h. record { at_once = h.at_once; ranged = h.ranged; in_groups = still x h.in_groups }) t.placed)
+            (record { at_once = refl; ranged = plain.at_once a there; in_groups = inr (refl, in-right (Start a) group (Start a ∷ []) (inl refl)) });
         rises = rising-push earlier acts (instant_act a g) t.rises (each-map (Placed p (suc g) group) (λ x. earlier x (instant_act a g) ≡ true) acts (λ x h. before_last x all_before h.in_groups) t.placed);
       }
     where
@@ -189,10 +193,10 @@ module _ (p : Problem) (plain : IsInstant p) where
       before_last x all (inr e) = by_action x (instant_act a g) (omega (arith, e.0)) (each-in (λ j. item_before j (Start a) ≡ true) group (Start x.action) all e.1)
 
   -- one start more
-  act_of_start : (a n k : ℕ) → k ≡ n → timed_act one_by_one (record { action = a; opens = k; closes = cond (is_durative p a) None (Some k) }) ≡ instant_act a n
+  act_of_start : (a n k : ℕ) → k ≡ n → timed_act consecutive (record { action = a; opens = k; closes = cond (is_durative p a) None (Some k) }) ≡ instant_act a n
   act_of_start a n k e =
-      let ends : finish one_by_one (record { action = a; opens = k; closes = cond (is_durative p a) None (Some k) }) ≡ k = ap (λ b. finish one_by_one (record { action = a; opens = k; closes = cond b None (Some k) })) (plain.instant a) in
-      let no_length : finish one_by_one (record { action = a; opens = k; closes = cond (is_durative p a) None (Some k) }) - k ≡ 0 = omega (arith, ends) in
+      let ends : finish consecutive (record { action = a; opens = k; closes = cond (is_durative p a) None (Some k) }) ≡ k = ap (λ b. finish consecutive (record { action = a; opens = k; closes = cond b None (Some k) })) (plain.instant a) in
+      let no_length : finish consecutive (record { action = a; opens = k; closes = cond (is_durative p a) None (Some k) }) - k ≡ 0 = omega (arith, ends) in
       λ i. record { action = a; start = e i; length = no_length i }
 
   told-more : (u : List Mark) (b : Bool) (a n : ℕ) → cond b (groups u + 1) (groups u) - 1 ≡ n → told p (u ++ record { fresh = b; item = Start a } ∷ []) ≡ told p u ++ instant_act a n ∷ []
@@ -201,9 +205,9 @@ module _ (p : Problem) (plain : IsInstant p) where
       let k : ℕ = cond b (groups u + 1) (groups u) - 1 in
       let y : Act = record { action = a; opens = k; closes = cond (is_durative p a) None (Some k) } in
       let zero_more : 0 + groups u ≡ groups u = omega arith in
-      ap (map (timed_act one_by_one)) (acts-append p 0 u (record { fresh = b; item = Start a } ∷ []) [] ∙ ap (λ j. with_act p (cond b (j + 1) j - 1) (Start a) xs) zero_more)
-      ∙ map-append (timed_act one_by_one) xs (y ∷ [])
-      ∙ ap (λ z. map (timed_act one_by_one) xs ++ z ∷ []) (act_of_start a n k e)
+      ap (map (timed_act consecutive)) (acts-append p 0 u (record { fresh = b; item = Start a } ∷ []) [] ∙ ap (λ j. with_act p (cond b (j + 1) j - 1) (Start a) xs) zero_more)
+      ∙ map-append (timed_act consecutive) xs (y ∷ [])
+      ∙ ap (λ z. map (timed_act consecutive) xs ++ z ∷ []) (act_of_start a n k e)
 
   abbrev pub Told : List Mark → Type 0
   Told w = Tells p w (progress p w).group (groups w) (told p w)
@@ -211,6 +215,7 @@ module _ (p : Problem) (plain : IsInstant p) where
   told-start : Told []
   told-start = record {
     word = refl;
+    counted = refl;
     last = λ g e. absurd (omega (arith, e));
     some = λ g e. absurd (omega (arith, e));
     opened = λ e. absurd (false≢true (sym e));
@@ -234,7 +239,7 @@ module _ (p : Problem) (plain : IsInstant p) where
   told-mark : (u : List Mark) (b : Bool) (i : Item) → Quiet (progress p u) → IsTrue (may_follow p (progress p u) (record { fresh = b; item = i })) → Told u → Told (u ++ record { fresh = b; item = i } ∷ [])
   told-mark u true i q h t =
       let a : (a : ℕ) × (i ≡ Start a) × (nat_lt a (length p.actions) ≡ true) = only_starts p plain (past_group p (progress p u)) i (quiet-past p plain (progress p u) q) (opens_of (progress p u) i h) in
-      let group : (progress p (u ++ record { fresh = true; item = Start a.0 } ∷ [])).group ≡ Start a.0 ∷ [] = ap (λ c. c.group) (read-append p (at_start p) u (record { fresh = true; item = Start a.0 } ∷ [])) in
+      let group : (progress p (u ++ record { fresh = true; item = Start a.0 } ∷ [])).group ≡ Start a.0 ∷ [] = ap (λ c. c.group) (read_on-append p (at_start p) u (record { fresh = true; item = Start a.0 } ∷ [])) in
       let count : groups (u ++ record { fresh = true; item = Start a.0 } ∷ []) ≡ suc (groups u) = omega (arith, groups-append u (record { fresh = true; item = Start a.0 } ∷ [])) in
       let acts : told p (u ++ record { fresh = true; item = Start a.0 } ∷ []) ≡ told p u ++ instant_act a.0 (groups u) ∷ [] = told-more u true a.0 (groups u) (omega arith) in
       subst (λ j. Told (u ++ record { fresh = true; item = j } ∷ [])) (sym a.1)
@@ -249,7 +254,7 @@ module _ (p : Problem) (plain : IsInstant p) where
       let opened : 0 < groups u = t.opened (not_empty (is_empty c.group) (joins_of c i h).0) in
       let g : ℕ = groups u - 1 in
       let was : suc g ≡ groups u = omega (arith, opened) in
-      let group : (progress p (u ++ record { fresh = false; item = Start a.0 } ∷ [])).group ≡ c.group ++ Start a.0 ∷ [] = ap (λ d. d.group) (read-append p (at_start p) u (record { fresh = false; item = Start a.0 } ∷ [])) in
+      let group : (progress p (u ++ record { fresh = false; item = Start a.0 } ∷ [])).group ≡ c.group ++ Start a.0 ∷ [] = ap (λ d. d.group) (read_on-append p (at_start p) u (record { fresh = false; item = Start a.0 } ∷ [])) in
       let count : groups (u ++ record { fresh = false; item = Start a.0 } ∷ []) ≡ suc g = omega (arith, groups-append u (record { fresh = false; item = Start a.0 } ∷ []), was) in
       let acts : told p (u ++ record { fresh = false; item = Start a.0 } ∷ []) ≡ told p u ++ instant_act a.0 g ∷ [] = told-more u false a.0 g refl in
       let above : list_all (λ j. item_before j (Start a.0)) c.group ≡ true = subst (λ k. list_all (λ j. item_before j k) c.group ≡ true) a.1 (only_left c.group (behind_all c i joins)) in
@@ -271,7 +276,7 @@ module _ (p : Problem) (plain : IsInstant p) where
   told-on u [] q r t = subst Told (sym (append-nil u)) t
   told-on u (m ∷ v) q r t =
       let u' : List Mark = u ++ m ∷ [] in
-      let read : progress p u' ≡ read_mark p (progress p u) m = read-append p (at_start p) u (m ∷ []) in
+      let read : progress p u' ≡ read_mark p (progress p u) m = read_on-append p (at_start p) u (m ∷ []) in
       subst Told (append_assoc u (m ∷ []) v)
       (told-on u' v (subst Quiet (sym read) (still m.fresh m.item)) (subst (λ c. Follow p c v) (sym read) r.1) (told-mark u m.fresh m.item q r.0 t))
     where
@@ -281,3 +286,7 @@ module _ (p : Problem) (plain : IsInstant p) where
 
   pub told-sound : (w : List Mark) → Sound p w → Told w
   told-sound w sound = told-on [] w (λ a. refl) sound.follows told-start
+
+  -- each mark is a start
+  pub starts-count : (w : List Mark) → Sound p w → length (acts_of p w) ≡ length w
+  starts-count w sound = sym (length-map (acts_of p w) (timed_act consecutive)) ∙ (told-sound w sound).counted

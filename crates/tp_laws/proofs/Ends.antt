@@ -13,7 +13,7 @@ use Rattle.tp_spec.specs.Words.{groups, joining, marked, spelled}
 use Rattle.tp_laws.specs.Laws.{happening_ticks}
 use Rattle.tp_laws.proofs.Ticks.{le_suc}
 
-groups-append : (u v : List Mark) → groups (u ++ v) ≡ groups u + groups v
+pub groups-append : (u v : List Mark) → groups (u ++ v) ≡ groups u + groups v
 groups-append [] v = omega arith
 groups-append (m ∷ u) v = let ih = groups-append u v in omega arith
 

@@ -13,15 +13,15 @@ use Rattle.tp_spec.specs.Courses.{happening, state_before}
 use Rattle.tp_spec.specs.Words.{Progress, at_start, state_past, past_group, with_item, read_mark, read_on, progress, joining, marked, spelled}
 use Rattle.tp_laws.proofs.States.{next-none}
 
-read_on-append : (p : Problem) (c : Progress) (u v : List Mark) → read_on p c (u ++ v) ≡ read_on p (read_on p c u) v
+pub read_on-append : (p : Problem) (c : Progress) (u v : List Mark) → read_on p c (u ++ v) ≡ read_on p (read_on p c u) v
 read_on-append p c [] v = refl
 read_on-append p c (m ∷ u) v = read_on-append p (read_mark p c m) u v
 
-before-joining : (p : Problem) (c : Progress) (is : List Item) → (read_on p c (map joining is)).before ≡ c.before
+pub before-joining : (p : Problem) (c : Progress) (is : List Item) → (read_on p c (map joining is)).before ≡ c.before
 before-joining p c [] = refl
 before-joining p c (i ∷ is) = before-joining p (with_item c i) is
 
-group-joining : (p : Problem) (c : Progress) (is : List Item) → (read_on p c (map joining is)).group ≡ c.group ++ is
+pub group-joining : (p : Problem) (c : Progress) (is : List Item) → (read_on p c (map joining is)).group ≡ c.group ++ is
 group-joining p c [] = sym (append-nil c.group)
 group-joining p c (i ∷ is) = group-joining p (with_item c i) is ∙ append_assoc c.group (i ∷ []) is
 

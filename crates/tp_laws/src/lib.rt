@@ -6,7 +6,7 @@ mod early;
 mod examples;
 mod laws;
 
-pub use early::{covered_after_expand, live_fronts, live_words, plans_of_live_words};
+pub use early::{covered_plans, live_marks, live_words, plain_problems, plans_of_words};
 pub use examples::{
     goal_at_start, invariants_given_together, spelled_words, states_after, unsafe_plans,
 };
