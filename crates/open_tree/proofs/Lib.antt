@@ -1,2 +1,4 @@
 pub mod Clocks
 pub mod Keeping
+pub mod Frontiers
+pub mod Orders

@@ -1,4 +1,6 @@
 pub mod Views
+pub mod Nodes
+pub mod Slots
 pub mod Charter
 pub mod Room
 pub mod Turns

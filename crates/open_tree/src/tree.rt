@@ -1,5 +1,4 @@
 ghost use Rattle.std.specs.Prelude.{◌≡◌, ◌≤◌, ◌+◌, ◌<◌, [], ◌∷◌, ◌++◌, IfOk, IfErr, OnOk, OnErr, vec_len, vec_capacity, true, false};
-ghost use Rattle.std.specs.BinaryHeap.{heap_len, heap_capacity};
 ghost use Rattle.tp_world.specs.Counts.{one_more};
 ghost use Rattle.open_tree.specs.Charter.{SameCharter};
 ghost use Rattle.open_tree.specs.Room.{HasRoom};
@@ -253,7 +252,7 @@ fn is_over(merged: Merged) -> bool
 
 /// Does to the frontier what was prepared, and tells the events of it.
 fn move_of(frontier: &mut Frontier, actor: u32, sprouts: Sprouts<'_>, step: Step) -> Move
-    requires { HasRoom frontier.old step }
+    requires { HasRoom sprouts.job.id frontier.old step }
     ensures { MakesMove actor sprouts.entry result }
 {
     let id = sprouts.id();
@@ -381,7 +380,7 @@ fn prepare(
     actor: u32,
     sprouts: &Sprouts<'_>,
 ) -> Result<Step, NoMemory>
-    ensures step { IfOk result (HasRoom frontier.new) }
+    ensures step { IfOk result (HasRoom sprouts.now.job.id frontier.new) }
     ensures items { history.new.items ≡ history.old.items }
     ensures room { OnOk result (vec_len history.new + 4 ≤ vec_capacity history.new) }
     ensures kept_room { vec_capacity history.old ≤ vec_capacity history.new }
