@@ -4,3 +4,4 @@ pub mod Room
 pub mod Turns
 pub mod Keeps
 pub mod Answers
+pub mod FactSets
