@@ -1,3 +1,4 @@
 pub mod Clocks
 pub mod Keeping
 pub mod FactBits
+pub mod RowSets

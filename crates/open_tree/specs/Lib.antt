@@ -5,3 +5,4 @@ pub mod Turns
 pub mod Keeps
 pub mod Answers
 pub mod FactSets
+pub mod PlainTables

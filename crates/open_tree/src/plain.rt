@@ -1,3 +1,8 @@
+ghost use Rattle.std.specs.Prelude.{◌≡◌, ◌==◌, length, IfOk};
+ghost use Rattle.tp_spec.specs.Items.{adds, deletes};
+ghost use Rattle.open_tree.specs.FactSets.{words_for, InBoth, IsWithin};
+ghost use Rattle.open_tree.specs.PlainTables.{wants, forbids, Takes, AreRowsOf, AreTables};
+
 use crate::rows::FactRow;
 use std::alloc::Global;
 use tp_spec::{Action, Cond, Effect, Item, Mark, NoMemory, Problem};
@@ -12,31 +17,50 @@ struct ActionRows {
 }
 
 impl ActionRows {
-    fn of(alloc: Global, facts: usize, action: &Action) -> Result<ActionRows, NoMemory> {
+    fn of(alloc: Global, facts: usize, action: &Action) -> Result<ActionRows, NoMemory>
+        ensures { IfOk result (λ r. AreRowsOf r (words_for facts) action.now.start_conds action.now.start_effects) }
+    {
+        let conds = action.start_conds.as_slice();
+        let effects = action.start_effects.as_slice();
         let mut rows = ActionRows {
             wanted: FactRow::empty(alloc, facts)?,
             unwanted: FactRow::empty(alloc, facts)?,
             adds: FactRow::empty(alloc, facts)?,
             deletes: FactRow::empty(alloc, facts)?,
         };
-        for cond in action.start_conds.as_slice() {
+        for cond in conds {
             rows.ask(cond);
         }
-        for effect in action.start_effects.as_slice() {
+        for effect in effects {
             rows.do_effect(effect);
         }
         Ok(rows)
     }
 
-    fn ask(&mut self, cond: &Cond) {
+    fn ask(&mut self, cond: &Cond)
+        ensures wanted { Takes self.old.wanted self.new.wanted (λ f. wants f cond.now) }
+        ensures unwanted { Takes self.old.unwanted self.new.unwanted (λ f. forbids f cond.now) }
+        ensures adds { self.new.adds ≡ self.old.adds }
+        ensures deletes { self.new.deletes ≡ self.old.deletes }
+    {
         match cond {
-            Cond::Lit { fact, positive } if *positive => self.wanted.insert(*fact),
-            Cond::Lit { fact, .. } => self.unwanted.insert(*fact),
+            Cond::Lit { fact, positive } => {
+                if *positive {
+                    self.wanted.insert(*fact);
+                } else {
+                    self.unwanted.insert(*fact);
+                }
+            }
             Cond::Compare { .. } => {}
         }
     }
 
-    fn do_effect(&mut self, effect: &Effect) {
+    fn do_effect(&mut self, effect: &Effect)
+        ensures adds { Takes self.old.adds self.new.adds (λ f. adds f effect.now) }
+        ensures deletes { Takes self.old.deletes self.new.deletes (λ f. deletes f effect.now) }
+        ensures wanted { self.new.wanted ≡ self.old.wanted }
+        ensures unwanted { self.new.unwanted ≡ self.old.unwanted }
+    {
         match effect {
             Effect::Add(fact) => self.adds.insert(*fact),
             Effect::Delete(fact) => self.deletes.insert(*fact),
@@ -59,10 +83,13 @@ pub struct PlainActions {
 
 impl PlainActions {
     /// The tables of a problem's actions.
-    pub fn of(alloc: Global, problem: &Problem) -> Result<PlainActions, NoMemory> {
+    pub fn of(alloc: Global, problem: &Problem) -> Result<PlainActions, NoMemory>
+        ensures { IfOk result (λ t. AreTables problem.now t) }
+    {
         let facts = problem.facts.as_slice().len();
+        let actions = problem.actions.as_slice();
         let mut rows = Vec::new(alloc);
-        for action in problem.actions.as_slice() {
+        for action in actions {
             let row = ActionRows::of(alloc, facts, action)?;
             match rows.push(row) {
                 Ok(()) => {}
@@ -73,12 +100,16 @@ impl PlainActions {
     }
 
     /// How many actions there are.
-    pub fn len(&self) -> usize {
+    pub fn len(&self) -> usize
+        ensures { result ≡ length self.now.rows.items }
+    {
         self.rows.len()
     }
 
     /// Whether there is no action.
-    pub fn is_empty(&self) -> bool {
+    pub fn is_empty(&self) -> bool
+        ensures { result ≡ (length self.now.rows.items == 0) }
+    {
         self.rows.is_empty()
     }
 }
