@@ -2,3 +2,5 @@ pub mod Clocks
 pub mod Keeping
 pub mod FactBits
 pub mod RowSets
+pub mod WalkSteps
+pub mod Unmet

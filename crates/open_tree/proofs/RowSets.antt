@@ -65,7 +65,7 @@ row_none row words brings xs wide none = record { wide = wide; has = λ f. none 
 place_below : (facts f : ℕ) → f < facts → has_place (words_for facts) f ≡ true
 place_below facts f below = lt-ltb (f / 64) (div_ceil facts 64) (omega arith)
 
-implied : (place any : Bool) → (any ≡ true → place ≡ true) → (place && any) ≡ any
+pub implied : (place any : Bool) → (any ≡ true → place ≡ true) → (place && any) ≡ any
 implied true any h = refl
 implied false true h = h refl
 implied false false h = refl

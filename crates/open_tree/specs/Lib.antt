@@ -6,3 +6,4 @@ pub mod Keeps
 pub mod Answers
 pub mod FactSets
 pub mod PlainTables
+pub mod Walks
