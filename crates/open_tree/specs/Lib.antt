@@ -6,3 +6,6 @@ pub mod Room
 pub mod Turns
 pub mod Keeps
 pub mod Answers
+pub mod FactSets
+pub mod PlainTables
+pub mod Walks

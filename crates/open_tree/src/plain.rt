@@ -1,3 +1,14 @@
+ghost use Rattle.std.specs.Prelude.{◌≡◌, ◌==◌, length, slice_get, true, not, count_by, IfOk};
+ghost use Rattle.std.specs.Option.{option_copied};
+ghost use Rattle.tp_spec.specs.Items.{adds, deletes};
+ghost use Rattle.open_tree.specs.FactSets.{words_for, InBoth, IsWithin};
+ghost use Rattle.open_tree.specs.PlainTables.{wants, forbids, Takes, AreRowsOf, AreTables};
+ghost use Rattle.tp_spec.specs.declared.problem.Problem.{Problem as Ground};
+ghost use Rattle.tp_spec.specs.Words.{Progress, progress, at_start as first_progress, past_group, with_item, read_mark};
+ghost use Rattle.tp_spec.specs.Plain.{is_plain};
+ghost use Rattle.tp_spec.specs.Machine.{unmet_goals};
+ghost use Rattle.open_tree.specs.Walks.{StandsFor, is_fact_after, holds_after_walk};
+
 use crate::rows::FactRow;
 use std::alloc::Global;
 use tp_spec::{Action, Cond, Effect, Item, Mark, NoMemory, Problem};
@@ -12,31 +23,50 @@ struct ActionRows {
 }
 
 impl ActionRows {
-    fn of(alloc: Global, facts: usize, action: &Action) -> Result<ActionRows, NoMemory> {
+    fn of(alloc: Global, facts: usize, action: &Action) -> Result<ActionRows, NoMemory>
+        ensures { IfOk result (λ r. AreRowsOf r (words_for facts) action.now.start_conds action.now.start_effects) }
+    {
+        let conds = action.start_conds.as_slice();
+        let effects = action.start_effects.as_slice();
         let mut rows = ActionRows {
             wanted: FactRow::empty(alloc, facts)?,
             unwanted: FactRow::empty(alloc, facts)?,
             adds: FactRow::empty(alloc, facts)?,
             deletes: FactRow::empty(alloc, facts)?,
         };
-        for cond in action.start_conds.as_slice() {
+        for cond in conds {
             rows.ask(cond);
         }
-        for effect in action.start_effects.as_slice() {
+        for effect in effects {
             rows.do_effect(effect);
         }
         Ok(rows)
     }
 
-    fn ask(&mut self, cond: &Cond) {
+    fn ask(&mut self, cond: &Cond)
+        ensures wanted { Takes self.old.wanted self.new.wanted (λ f. wants f cond.now) }
+        ensures unwanted { Takes self.old.unwanted self.new.unwanted (λ f. forbids f cond.now) }
+        ensures adds { self.new.adds ≡ self.old.adds }
+        ensures deletes { self.new.deletes ≡ self.old.deletes }
+    {
         match cond {
-            Cond::Lit { fact, positive } if *positive => self.wanted.insert(*fact),
-            Cond::Lit { fact, .. } => self.unwanted.insert(*fact),
+            Cond::Lit { fact, positive } => {
+                if *positive {
+                    self.wanted.insert(*fact);
+                } else {
+                    self.unwanted.insert(*fact);
+                }
+            }
             Cond::Compare { .. } => {}
         }
     }
 
-    fn do_effect(&mut self, effect: &Effect) {
+    fn do_effect(&mut self, effect: &Effect)
+        ensures adds { Takes self.old.adds self.new.adds (λ f. adds f effect.now) }
+        ensures deletes { Takes self.old.deletes self.new.deletes (λ f. deletes f effect.now) }
+        ensures wanted { self.new.wanted ≡ self.old.wanted }
+        ensures unwanted { self.new.unwanted ≡ self.old.unwanted }
+    {
         match effect {
             Effect::Add(fact) => self.adds.insert(*fact),
             Effect::Delete(fact) => self.deletes.insert(*fact),
@@ -59,10 +89,13 @@ pub struct PlainActions {
 
 impl PlainActions {
     /// The tables of a problem's actions.
-    pub fn of(alloc: Global, problem: &Problem) -> Result<PlainActions, NoMemory> {
+    pub fn of(alloc: Global, problem: &Problem) -> Result<PlainActions, NoMemory>
+        ensures { IfOk result (λ t. AreTables problem.now t) }
+    {
         let facts = problem.facts.as_slice().len();
+        let actions = problem.actions.as_slice();
         let mut rows = Vec::new(alloc);
-        for action in problem.actions.as_slice() {
+        for action in actions {
             let row = ActionRows::of(alloc, facts, action)?;
             match rows.push(row) {
                 Ok(()) => {}
@@ -73,12 +106,23 @@ impl PlainActions {
     }
 
     /// How many actions there are.
-    pub fn len(&self) -> usize {
+    pub fn len(&self) -> usize
+        ensures { result ≡ length self.now.rows.items }
+    {
         self.rows.len()
     }
 
+    /// The rows of an action.
+    fn rows_of(&self, action: u32) -> Option<&ActionRows>
+        ensures { option_copied result ≡ slice_get self.now.rows.items action }
+    {
+        self.rows.get(action as usize)
+    }
+
     /// Whether there is no action.
-    pub fn is_empty(&self) -> bool {
+    pub fn is_empty(&self) -> bool
+        ensures { result ≡ (length self.now.rows.items == 0) }
+    {
         self.rows.is_empty()
     }
 }
@@ -100,7 +144,9 @@ impl<'a> PlainWalk<'a> {
         alloc: Global,
         actions: &'a PlainActions,
         problem: &Problem,
-    ) -> Result<PlainWalk<'a>, NoMemory> {
+    ) -> Result<PlainWalk<'a>, NoMemory>
+        ensures { is_plain problem.now ≡ true → AreTables problem.now actions.now → IfOk result (λ w. StandsFor problem.now w (first_progress problem.now)) }
+    {
         let facts = actions.facts;
         Ok(PlainWalk {
             actions,
@@ -118,7 +164,9 @@ impl<'a> PlainWalk<'a> {
         actions: &'a PlainActions,
         problem: &Problem,
         word: &[Mark],
-    ) -> Result<PlainWalk<'a>, NoMemory> {
+    ) -> Result<PlainWalk<'a>, NoMemory>
+        ensures { is_plain problem.now ≡ true → AreTables problem.now actions.now → IfOk result (λ w. StandsFor problem.now w (progress problem.now word.now)) }
+    {
         let mut walk = PlainWalk::at_start(alloc, actions, problem)?;
         for mark in word {
             walk.read(*mark);
@@ -127,23 +175,45 @@ impl<'a> PlainWalk<'a> {
     }
 
     /// Reads one mark more. Only starts of the problem's actions change anything.
-    pub fn read(&mut self, mark: Mark) {
+    pub fn read(&mut self, mark: Mark)
+        ensures { (p : Ground) (c : Progress) → StandsFor p self.old c → StandsFor p self.new (read_mark p c mark) }
+    {
         if mark.fresh {
             self.close();
         }
-        if let Item::Start(action) = mark.item
-            && let Some(rows) = self.actions.rows.get(action as usize)
-        {
-            self.asked.add_all(&rows.wanted);
-            self.asked.add_all(&rows.unwanted);
-            self.adds.add_all(&rows.adds);
-            self.deletes.add_all(&rows.deletes);
-            self.last = Some(action);
+        self.include(mark.item);
+    }
+
+    /// Puts an item into the last group.
+    fn include(&mut self, item: Item)
+        ensures { (p : Ground) (c : Progress) → StandsFor p self.old c → StandsFor p self.new (with_item c item) }
+    {
+        match item {
+            Item::Start(action) => self.start(action),
+            Item::TimedAt(_) => {}
+            Item::End(_) => {}
         }
     }
 
+    /// Puts the start of an action into the last group.
+    fn start(&mut self, action: u32)
+        ensures { (p : Ground) (c : Progress) → StandsFor p self.old c → StandsFor p self.new (with_item c (Item.Start action)) }
+    {
+        let actions = self.actions;
+        let Some(rows) = actions.rows_of(action) else {
+            return;
+        };
+        self.asked.add_all(&rows.wanted);
+        self.asked.add_all(&rows.unwanted);
+        self.adds.add_all(&rows.adds);
+        self.deletes.add_all(&rows.deletes);
+        self.last = Some(action);
+    }
+
     /// Closes the last group.
-    fn close(&mut self) {
+    fn close(&mut self)
+        ensures { (p : Ground) (c : Progress) → StandsFor p self.old c → StandsFor p self.new (past_group p c) }
+    {
         self.before.remove_all(&self.deletes);
         self.before.add_all(&self.adds);
         self.asked.clear();
@@ -190,24 +260,30 @@ impl<'a> PlainWalk<'a> {
     }
 
     /// How many goal parts do not hold after the word.
-    pub fn unmet(&self, goal: &[Cond]) -> u32 {
-        let mut unmet = 0u32;
-        for cond in goal {
-            if !self.holds_after(cond) {
-                unmet = unmet.saturating_add(1);
-            }
-        }
-        unmet
+    pub fn unmet(&self, goal: &[Cond]) -> u32
+        ensures { (p : Ground) (c : Progress) → StandsFor p self.now c → goal.now ≡ p.goal → result ≡ unmet_goals p c }
+    {
+        self.count_unmet(goal).min(u32::MAX as usize) as u32
     }
 
-    fn holds_after(&self, cond: &Cond) -> bool {
+    fn count_unmet(&self, goal: &[Cond]) -> usize
+        ensures { result ≡ count_by (λ g. not (holds_after_walk self.now g)) goal.now }
+    {
+        goal.iter().filter(|cond| !self.holds_after(cond)).count()
+    }
+
+    fn holds_after(&self, cond: &Cond) -> bool
+        ensures { result ≡ holds_after_walk self.now cond.now }
+    {
         match cond {
             Cond::Lit { fact, positive } => self.is_true_after(*fact) == *positive,
             Cond::Compare { .. } => false,
         }
     }
 
-    fn is_true_after(&self, fact: u32) -> bool {
+    fn is_true_after(&self, fact: u32) -> bool
+        ensures { result ≡ is_fact_after self.now fact }
+    {
         self.adds.has(fact) || (self.before.has(fact) && !self.deletes.has(fact))
     }
 
@@ -235,7 +311,7 @@ impl<'a> PlainWalk<'a> {
         let Item::Start(action) = mark.item else {
             return self.is_true_after(fact);
         };
-        let Some(rows) = self.actions.rows.get(action as usize) else {
+        let Some(rows) = self.actions.rows_of(action) else {
             return self.is_true_after(fact);
         };
         rows.adds.has(fact) || (self.is_true_after(fact) && !rows.deletes.has(fact))
