@@ -1,0 +1,10 @@
+//! PDDL domains: the declarations and actions of a text, or its first fault.
+#![tactic(auto)]
+
+mod fault;
+mod first;
+mod names;
+mod typed;
+mod words;
+
+pub use fault::PddlFault;
