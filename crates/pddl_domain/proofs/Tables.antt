@@ -6,10 +6,9 @@ use Rattle.std.proofs.lemmas.List.{map-append, length-map, at_drop_more}
 use Rattle.std.specs.declared.alloc.Global.{Global}
 use Rattle.std.specs.declared.vec.Vec.{Vec}
 use Rattle.pddl_domain.specs.declared.fault.Fault.{Fault}
-use Rattle.pddl_domain.specs.declared.table.Word.{Word}
 use Rattle.pddl_domain.specs.First.{first, earlier}
 use Rattle.pddl_domain.proofs.Firsts.{first_onto}
-use Rattle.pddl_domain.specs.Names.{with_name, is_new, again_faults, twice_faults}
+use Rattle.pddl_domain.specs.Names.{with_name, is_new}
 
 pub any_map : {X Y : Type 0} (p : Y → Bool) (f : X → Y) (xs : List X) → list_any p (map f xs) ≡ list_any (λ x. p (f x)) xs
 any_map p f [] = refl

@@ -54,4 +54,12 @@ impl Names {
     {
         self.names.get_index_of(name)
     }
+
+    /// Whether a name is there.
+    #[tactic(auto, using(crate::proofs::Tables::any_map))]
+    pub fn has(&self, name: &[u8]) -> bool
+        ensures { result ≡ list_any (bytes_eq name.now) self.now }
+    {
+        self.names.contains(name)
+    }
 }
