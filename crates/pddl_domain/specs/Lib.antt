@@ -2,3 +2,4 @@ pub mod First
 pub mod Words
 pub mod Names
 pub mod Typed
+pub mod Heads

@@ -42,11 +42,17 @@ begins_with c (first ∷ rest) = nat_eq first c
 abbrev pub is_dash : List ℕ → Bool
 is_dash text = bytes_eq text (codes "-")
 
--- a symbol of the characters that names may have: no variable, keyword or hyphen, and no number
+-- a symbol that is no variable, keyword or hyphen
+abbrev pub is_symbol : List ℕ → Bool
+is_symbol text = not (begins_with 63 text) && not (begins_with 58 text) && not (is_dash text) && not (is_some (numeral_of text))
+
+-- such a symbol of the characters that names may have
 abbrev pub is_name : List ℕ → Bool
-is_name text =
-    list_all is_name_byte text && not (begins_with 63 text) && not (begins_with 58 text) && not (is_dash text)
-    && not (is_some (numeral_of text))
+is_name text = list_all is_name_byte text && is_symbol text
+
+-- a name that is not left out
+abbrev pub is_thing : List ℕ → Bool
+is_thing text = is_name text && not (is_left_out text)
 
 -- a question mark and at least one character of those
 abbrev pub is_variable : List ℕ → Bool
@@ -54,7 +60,7 @@ is_variable text = list_all is_name_byte text && begins_with 63 text && nat_lt 1
 
 -- where a name is to stand
 abbrev pub name_faults : ℕ → List ℕ → List Fault
-name_faults at text = if is_name text && not (is_left_out text) then [] else misfit_word at text
+name_faults at text = if is_thing text then [] else misfit_word at text
 
 -- where a variable is to stand
 abbrev pub variable_faults : ℕ → List ℕ → List Fault

@@ -3,6 +3,7 @@
 
 mod fault;
 mod first;
+mod heads;
 mod names;
 mod typed;
 mod words;

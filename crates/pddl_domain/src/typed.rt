@@ -94,7 +94,8 @@ fn word_fault(rule: Rule, types: &Names, part: Part, word: &Word) -> Option<Faul
     }
 }
 
-fn end_fault(part: Part, close: u32) -> Option<Fault>
+/// What is wrong where a typed list ends.
+pub fn end_fault(part: Part, close: u32) -> Option<Fault>
     ensures { result ≡ first (end_faults part close) }
 {
     match part {
@@ -151,7 +152,7 @@ fn is_item(rule: Rule, part: Part, word: &Word) -> bool
 }
 
 /// Enters an item, and says what is wrong where it came before.
-fn enter_item(
+pub fn enter_item(
     alloc: Global,
     item: bool,
     seen: &mut Names,

@@ -3,7 +3,7 @@ ghost use Rattle.std.specs.List.{list_all};
 ghost use Rattle.tp_spec.specs.WellFormed.{is_name_byte};
 ghost use Rattle.pddl_tokens.specs.Trees.{trees_of};
 ghost use Rattle.pddl_domain.specs.First.{first};
-ghost use Rattle.pddl_domain.specs.Words.{is_logic_left_out, is_rest_left_out, is_left_out, misfit_word, misfit_list, begins_with, is_dash, is_name, is_variable, name_faults, variable_faults};
+ghost use Rattle.pddl_domain.specs.Words.{is_logic_left_out, is_rest_left_out, is_left_out, misfit_word, misfit_list, begins_with, is_dash, is_symbol, is_name, is_thing, is_variable, name_faults, variable_faults};
 
 use crate::fault::{Fault, Kind};
 use crate::first::fault;
@@ -68,7 +68,8 @@ pub fn misfit_list(at: u32, parts: &[Form]) -> Option<Fault>
     }
 }
 
-fn begins_with(c: u8, text: &[u8]) -> bool
+/// Whether a text begins with a byte.
+pub fn begins_with(c: u8, text: &[u8]) -> bool
     ensures { result ≡ begins_with c text.now }
 {
     match text {
@@ -96,16 +97,26 @@ fn are_name_bytes(text: &[u8]) -> bool
     text.iter().all(|c| is_name_byte(*c))
 }
 
-/// Whether a word may name a thing.
+/// Whether a word is a symbol that is no variable, keyword or hyphen.
+pub fn is_symbol(word: &Word) -> bool
+    ensures { result ≡ is_symbol word.now.text }
+{
+    let text = word.text.as_slice();
+    !begins_with(b'?', text) && !begins_with(b':', text) && !is_dash(text) && !is_numeral(word)
+}
+
+/// Whether a word has the form of a name.
 pub fn is_name(word: &Word) -> bool
     ensures { result ≡ is_name word.now.text }
 {
-    let text = word.text.as_slice();
-    are_name_bytes(text)
-        && !begins_with(b'?', text)
-        && !begins_with(b':', text)
-        && !is_dash(text)
-        && !is_numeral(word)
+    are_name_bytes(word.text.as_slice()) && is_symbol(word)
+}
+
+/// Whether a word names a thing: it may be a name, and is not left out.
+pub fn is_thing(word: &Word) -> bool
+    ensures { result ≡ is_thing word.now.text }
+{
+    is_name(word) && !is_left_out(word.text.as_slice())
 }
 
 /// Whether a word may be a variable.
@@ -120,7 +131,7 @@ pub fn is_variable(word: &Word) -> bool
 pub fn name_fault(word: &Word) -> Option<Fault>
     ensures { result ≡ first (name_faults word.now.at word.now.text) }
 {
-    if is_name(word) && !is_left_out(word.text.as_slice()) {
+    if is_thing(word) {
         None
     } else {
         misfit_word(word)
