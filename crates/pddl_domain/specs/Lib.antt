@@ -3,3 +3,5 @@ pub mod Words
 pub mod Names
 pub mod Typed
 pub mod Heads
+pub mod Types
+pub mod Sections

@@ -5,7 +5,9 @@ mod fault;
 mod first;
 mod heads;
 mod names;
+mod sections;
 mod typed;
+mod types;
 mod words;
 
 pub use fault::PddlFault;
