@@ -5,3 +5,4 @@ pub mod Typed
 pub mod Heads
 pub mod Types
 pub mod Sections
+pub mod Outer

@@ -5,6 +5,7 @@ mod fault;
 mod first;
 mod heads;
 mod names;
+mod outer;
 mod sections;
 mod typed;
 mod types;
