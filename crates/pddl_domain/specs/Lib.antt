@@ -6,3 +6,4 @@ pub mod Heads
 pub mod Types
 pub mod Sections
 pub mod Outer
+pub mod Tables

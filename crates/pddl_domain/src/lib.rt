@@ -7,6 +7,7 @@ mod heads;
 mod names;
 mod outer;
 mod sections;
+mod table;
 mod typed;
 mod types;
 mod words;
