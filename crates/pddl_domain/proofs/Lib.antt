@@ -2,3 +2,4 @@ pub mod Firsts
 pub mod Least
 pub mod Tables
 pub mod Entries
+pub mod Counts

@@ -7,3 +7,5 @@ pub mod Types
 pub mod Sections
 pub mod Outer
 pub mod Tables
+pub mod Atoms
+pub mod Expressions

@@ -1,11 +1,14 @@
 //! PDDL domains: the declarations and actions of a text, or its first fault.
 #![tactic(auto)]
 
+mod atoms;
+mod expressions;
 mod fault;
 mod first;
 mod heads;
 mod names;
 mod outer;
+mod scope;
 mod sections;
 mod table;
 mod typed;

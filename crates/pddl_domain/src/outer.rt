@@ -36,7 +36,7 @@ fn others_fault(forms: &[Form]) -> Option<Fault>
 
 /// The first fault of members that stand where none may.
 #[tactic(auto, using(crate::proofs::Firsts::first_onto))]
-fn surplus_fault(forms: &[Form]) -> Option<Fault>
+pub fn surplus_fault(forms: &[Form]) -> Option<Fault>
     ensures { result ≡ first (surplus_faults (trees_of forms.now)) }
 {
     let mut best = None;
