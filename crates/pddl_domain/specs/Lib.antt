@@ -9,3 +9,4 @@ pub mod Outer
 pub mod Tables
 pub mod Atoms
 pub mod Expressions
+pub mod Conditions

@@ -14,11 +14,15 @@ use pddl_tokens::{Form, Head, Word, head_of};
 fn known_fault(known: bool, at: u32) -> Option<Fault>
     ensures { result ≡ first (known_faults known at) }
 {
-    if known { None } else { fault(Kind::Unknown, at) }
+    if known {
+        None
+    } else {
+        fault(Kind::Unknown, at)
+    }
 }
 
 /// What is wrong with a word where a variable or an object is to stand.
-fn term_fault(scope: &Scope, variables: &Names, word: &Word) -> Option<Fault>
+pub fn term_fault(scope: &Scope, variables: &Names, word: &Word) -> Option<Fault>
     ensures { result ≡ first (term_faults scope.now variables.now word.now.at word.now.text) }
 {
     let text = word.text.as_slice();

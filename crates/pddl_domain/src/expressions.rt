@@ -103,12 +103,7 @@ fn difference_fault(
 /// The first fault behind the first operand of a difference.
 #[cycle(expressions)]
 #[tactic(auto, using(crate::proofs::Firsts::first_append))]
-fn second_fault(
-    scope: &Scope,
-    variables: &Names,
-    scale: u32,
-    operands: &[Form],
-) -> Option<Fault>
+fn second_fault(scope: &Scope, variables: &Names, scale: u32, operands: &[Form]) -> Option<Fault>
     requires { IsScale scale }
     ensures { result ≡ first (second_faults scope.now variables.now scale (trees_of operands.now)) }
 {
@@ -130,12 +125,7 @@ fn second_fault(
 /// The first fault of some expressions, but for their depths.
 #[cycle(expressions)]
 #[tactic(auto, using(crate::proofs::Firsts::first_onto))]
-fn expressions_fault(
-    scope: &Scope,
-    variables: &Names,
-    scale: u32,
-    forms: &[Form],
-) -> Option<Fault>
+fn expressions_fault(scope: &Scope, variables: &Names, scale: u32, forms: &[Form]) -> Option<Fault>
     requires { IsScale scale }
     ensures { result ≡ first (expressions_faults scope.now variables.now scale (trees_of forms.now)) }
 {

@@ -36,13 +36,7 @@ pub fn earlier(a: Option<Fault>, b: Option<Fault>) -> Option<Fault>
     match (a, b) {
         (None, b) => b,
         (Some(a), None) => Some(a),
-        (Some(a), Some(b)) => {
-            if goes_before(b, a) {
-                Some(b)
-            } else {
-                Some(a)
-            }
-        }
+        (Some(a), Some(b)) => { if goes_before(b, a) { Some(b) } else { Some(a) } }
     }
 }
 
@@ -58,5 +52,4 @@ pub fn fault(kind: Kind, at: u32) -> Option<Fault>
 pub fn first_is_least()
     ensures some { (fs : List Found) (f : Found) → first fs ≡ Some f → IsLeast f fs }
     ensures none { (fs : List Found) → first fs ≡ None → fs ≡ [] }
-{
-}
+{}

@@ -7,7 +7,9 @@ use crate::fault::Fault;
 use crate::first::earlier;
 use crate::names::Names;
 use crate::typed::{Part, Rule, end_fault, enter_item, repeat_fault, typed_fault};
-use crate::words::{is_dash, is_left_out, is_symbol, is_thing, misfit_list, misfit_word, name_fault};
+use crate::words::{
+    is_dash, is_left_out, is_symbol, is_thing, misfit_list, misfit_word, name_fault,
+};
 use pddl_tokens::{Form, Head, Word, head_of};
 use std::alloc::Global;
 use tp_spec::NoMemory;
@@ -109,13 +111,7 @@ fn behind_list(numbers: bool, part: Part) -> Part
 {
     match part {
         Part::Type_of => Part::Start,
-        Part::Start | Part::Items => {
-            if numbers {
-                Part::Items
-            } else {
-                Part::Start
-            }
-        }
+        Part::Start | Part::Items => { if numbers { Part::Items } else { Part::Start } }
     }
 }
 

@@ -2,6 +2,7 @@
 #![tactic(auto)]
 
 mod atoms;
+mod conditions;
 mod expressions;
 mod fault;
 mod first;

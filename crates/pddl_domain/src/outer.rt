@@ -126,12 +126,7 @@ fn defined_fault(alloc: Global, close: u32, forms: &[Form]) -> Result<Option<Fau
 }
 
 /// The first fault of a form that is to be a domain.
-fn form_fault(
-    alloc: Global,
-    at: u32,
-    close: u32,
-    parts: &[Form],
-) -> Result<Option<Fault>, NoMemory>
+fn form_fault(alloc: Global, at: u32, close: u32, parts: &[Form]) -> Result<Option<Fault>, NoMemory>
     ensures { IfOk result (λ fault. fault ≡ first (form_faults at close (trees_of parts.now))) }
 {
     match head_of(parts) {

@@ -119,7 +119,13 @@ fn members_fault(
     } else if text == b":constants".as_slice() {
         constants_fault(alloc, types, close, members)
     } else {
-        heads_fault(alloc, text == b":functions".as_slice(), types, close, members)
+        heads_fault(
+            alloc,
+            text == b":functions".as_slice(),
+            types,
+            close,
+            members,
+        )
     }
 }
 

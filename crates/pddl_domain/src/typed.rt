@@ -6,7 +6,9 @@ ghost use Rattle.pddl_domain.specs.Typed.{item_faults, type_faults, next, next_o
 use crate::fault::{Fault, Kind};
 use crate::first::{earlier, fault};
 use crate::names::Names;
-use crate::words::{is_dash, is_left_out, is_name, is_variable, misfit_list, name_fault, variable_fault};
+use crate::words::{
+    is_dash, is_left_out, is_name, is_variable, misfit_list, name_fault, variable_fault,
+};
 use pddl_tokens::{Form, Head, Word, head_of};
 use std::alloc::Global;
 use tp_spec::NoMemory;
