@@ -10,3 +10,4 @@ pub mod Tables
 pub mod Atoms
 pub mod Expressions
 pub mod Conditions
+pub mod Effects

@@ -3,6 +3,7 @@
 
 mod atoms;
 mod conditions;
+mod effects;
 mod expressions;
 mod fault;
 mod first;
