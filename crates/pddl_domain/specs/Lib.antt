@@ -11,3 +11,4 @@ pub mod Atoms
 pub mod Expressions
 pub mod Conditions
 pub mod Effects
+pub mod Timed

@@ -14,7 +14,8 @@ use crate::scope::Scope;
 use crate::words::{is_left_out, is_symbol, misfit_list, misfit_word};
 use pddl_tokens::{Form, Head, Word, head_of, is_numeral};
 
-fn is_order(text: &[u8]) -> bool
+/// Whether a word is an order of numbers.
+pub fn is_order(text: &[u8]) -> bool
     ensures { result ≡ is_order text.now }
 {
     text == b"<".as_slice()
@@ -166,7 +167,7 @@ fn may_be_term(members: &[Form]) -> bool
 }
 
 /// Whether members behind `=` are of an object equality, as far as they go.
-fn may_be_equality(members: &[Form]) -> bool
+pub fn may_be_equality(members: &[Form]) -> bool
     ensures { result ≡ may_be_equality (trees_of members.now) }
 {
     match head_of(members) {

@@ -14,7 +14,8 @@ use crate::scope::Scope;
 use crate::words::{misfit_list, misfit_word};
 use pddl_tokens::{Form, Head, head_of};
 
-fn is_update(text: &[u8]) -> bool
+/// Whether a word begins an update of a fluent.
+pub fn is_update(text: &[u8]) -> bool
     ensures { result ≡ is_update text.now }
 {
     text == b"increase".as_slice()

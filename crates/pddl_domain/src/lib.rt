@@ -13,6 +13,7 @@ mod outer;
 mod scope;
 mod sections;
 mod table;
+mod timed;
 mod typed;
 mod types;
 mod words;
