@@ -18,9 +18,7 @@ use pddl_tokens::{Form, Head, head_of};
 pub fn is_update(text: &[u8]) -> bool
     ensures { result ≡ is_update text.now }
 {
-    text == b"increase".as_slice()
-        || text == b"decrease".as_slice()
-        || text == b"assign".as_slice()
+    text == b"increase".as_slice() || text == b"decrease".as_slice() || text == b"assign".as_slice()
 }
 
 /// Whether a word has a form of its own where an effect stands.
@@ -31,12 +29,7 @@ fn has_effect_form(text: &[u8]) -> bool
 }
 
 /// The first fault of a list that is to be a function with its arguments.
-pub fn function_fault(
-    scope: &Scope,
-    variables: &Names,
-    at: u32,
-    parts: &[Form],
-) -> Option<Fault>
+pub fn function_fault(scope: &Scope, variables: &Names, at: u32, parts: &[Form]) -> Option<Fault>
     ensures { result ≡ first (function_faults scope.now variables.now at (trees_of parts.now)) }
 {
     match head_of(parts) {
@@ -165,12 +158,7 @@ pub fn effect_fault(
 /// The first fault of some effects.
 #[cycle(effects)]
 #[tactic(auto, using(crate::proofs::Firsts::first_onto))]
-fn effects_fault(
-    scope: &Scope,
-    variables: &Names,
-    scale: u32,
-    forms: &[Form],
-) -> Option<Fault>
+fn effects_fault(scope: &Scope, variables: &Names, scale: u32, forms: &[Form]) -> Option<Fault>
     requires { IsScale scale }
     ensures { result ≡ first (effects_faults scope.now variables.now scale (trees_of forms.now)) }
 {

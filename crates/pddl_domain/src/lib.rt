@@ -19,3 +19,6 @@ mod types;
 mod words;
 
 pub use fault::PddlFault;
+
+#[cfg(test)]
+mod tests;
