@@ -1,2 +1,13 @@
 pub mod formers
+pub mod Lists
 pub mod WellFormed
+pub mod States
+pub mod Items
+pub mod Interference
+pub mod Courses
+pub mod Words
+pub mod Schedules
+pub mod Machine
+pub mod Following
+pub mod Texts
+pub mod Plain

@@ -3,6 +3,7 @@ use Rattle.std.specs.Prelude.{◌≡◌, ℕ, ℤ, ◌+◌, ◌^◌, Bool, true,
 use Rattle.std.specs.List.{list_any, list_all}
 use Rattle.std.specs.Ordering.{is_lt, nat_cmp}
 use Rattle.std.specs.Cmp.Lexicographic.{slice_cmp}
+use Rattle.tp_spec.specs.Lists.{is_empty, each_pair, each_next}
 use Rattle.tp_spec.specs.declared.expr.Expr.{Expr, fold-Expr}
 use Rattle.tp_spec.specs.declared.expr.Expr.TheOpen.{Expr-F}
 use Rattle.tp_spec.specs.declared.list.Name.{Name}
@@ -27,21 +28,6 @@ pub record Ground : Type 0 where
   pub init : List ℕ
   pub values : List (Option ℤ)
   pub goal : List Cond
-
-abbrev pub is_empty : {A : Type 0} → List A → Bool
-is_empty [] = true
-is_empty (x ∷ xs) = false
-
--- whether each two members, the earlier first, are related so
-abbrev pub each_pair : {A : Type 0} → (A → A → Bool) → List A → Bool
-each_pair related [] = true
-each_pair related (x ∷ xs) = list_all (related x) xs && each_pair related xs
-
--- whether each two neighbours are related so
-abbrev pub each_next : {A : Type 0} → (A → A → Bool) → List A → Bool
-each_next related [] = true
-each_next related (x ∷ []) = true
-each_next related (x ∷ y ∷ xs) = related x y && each_next related (y ∷ xs)
 
 -- the order of names, by their bytes
 abbrev pub name_before : List ℕ → List ℕ → Bool

@@ -1,0 +1,165 @@
+ghost use Rattle.std.specs.Prelude.{◌≡◌};
+
+use crate::node::Node;
+use std::marker::Model;
+use tp_spec::{Limits, List, Mark, Problem, Timed};
+
+/// A node that an actor took, and the view under which it did: the clock, the commitments, the limits and the problem.
+#[derive(Drop)]
+pub struct Job<'p> {
+    problem: &'p Problem,
+    limits: Limits,
+    id: u32,
+    node: Node,
+    clock: u64,
+    commits: List<Timed>,
+}
+
+impl<'p> Model for Job<'p> {
+    ghost use Rattle.open_tree.specs.Views.{JobView};
+    ghost use Rattle.tp_spec.specs.contracts.expr.Expr as expr;
+    ghost use Rattle.std.specs.Coded.{codes};
+
+    ghost Value = { JobView };
+
+    ghost coded = { Prim.hlevel (codes, expr.the_row.coded) };
+
+    ghost view = { λ j. record { problem = j.problem.now; limits = j.limits; id = j.id; node = j.node; clock = j.clock; commits = j.commits } };
+}
+
+impl<'p> Job<'p> {
+    /// A job of a node under a view.
+    pub fn new(
+        problem: &'p Problem,
+        limits: Limits,
+        id: u32,
+        node: Node,
+        now: u64,
+        commits: List<Timed>,
+    ) -> Job<'p>
+        ensures problem { result.problem ≡ problem.now }
+        ensures limits { result.limits ≡ limits }
+        ensures id { result.id ≡ id }
+        ensures node { result.node ≡ node }
+        ensures clock { result.clock ≡ now }
+        ensures commits { result.commits ≡ commits }
+    {
+        Job {
+            problem,
+            limits,
+            id,
+            node,
+            clock: now,
+            commits,
+        }
+    }
+
+    /// The node's id.
+    pub fn id(&self) -> u32
+        ensures { result ≡ self.now.id }
+    {
+        self.id
+    }
+
+    /// The node.
+    pub fn node(&self) -> &Node
+        ensures { result.now ≡ self.now.node }
+    {
+        &self.node
+    }
+
+    /// The clock of the view, in ticks.
+    pub fn now(&self) -> u64
+        ensures { result ≡ self.now.clock }
+    {
+        self.clock
+    }
+
+    /// The commitments of the view.
+    pub fn commits(&self) -> &[Timed]
+        ensures { result.now ≡ self.now.commits }
+    {
+        self.commits.as_slice()
+    }
+
+    /// The limits of the view.
+    pub fn limits(&self) -> &Limits
+        ensures { result.now ≡ self.now.limits }
+    {
+        &self.limits
+    }
+
+    /// The problem of the view.
+    pub fn problem(&self) -> &'p Problem
+        ensures { result.now ≡ self.now.problem }
+    {
+        self.problem
+    }
+}
+
+/// A job with the marks that make its word a live word under its view, in order.
+#[derive(Drop)]
+pub struct Sprouts<'p> {
+    job: Job<'p>,
+    marks: List<Mark>,
+}
+
+impl<'p> Model for Sprouts<'p> {
+    ghost use Rattle.open_tree.specs.Views.{SproutsView};
+    ghost use Rattle.tp_spec.specs.contracts.expr.Expr as expr;
+    ghost use Rattle.std.specs.Coded.{codes};
+
+    ghost Value = { SproutsView };
+
+    ghost coded = { Prim.hlevel (codes, expr.the_row.coded) };
+
+    ghost view = { λ s. record { job = s.job; marks = s.marks } };
+}
+
+impl<'p> Sprouts<'p> {
+    /// The sprouts of a job. It takes no memory.
+    pub fn new(job: Job<'p>, marks: List<Mark>) -> Sprouts<'p>
+        ensures job { result.job ≡ job.entry }
+        ensures marks { result.marks ≡ marks }
+    {
+        Sprouts { job, marks }
+    }
+
+    /// The id of the job's node.
+    pub fn id(&self) -> u32
+        ensures { result ≡ self.now.job.id }
+    {
+        self.job.id()
+    }
+
+    /// The marks.
+    pub fn marks(&self) -> &[Mark]
+        ensures { result.now ≡ self.now.marks }
+    {
+        self.marks.as_slice()
+    }
+
+    /// The marks alone.
+    pub fn into_marks(self) -> List<Mark>
+        ensures { result ≡ self.entry.marks }
+    {
+        let Sprouts { job: _, marks } = self;
+        marks
+    }
+}
+
+/// What a take gives: a job; nothing, where no node is open; or that an outcome stands.
+#[derive(Drop)]
+pub enum Taken<'p> {
+    Job(Job<'p>),
+    Nothing,
+    Over,
+}
+
+/// What a merge gives: the node was expanded; it had left the frontier; or an outcome stands.
+#[derive(Clone, Copy, Debug, PartialEq, Eq)]
+pub enum Merged {
+    Done,
+    Stale,
+    Over,
+}

@@ -1,0 +1,5 @@
+pub mod Contents
+pub mod Counts
+pub mod LoadFaults
+pub mod Readings
+pub mod Sinks

@@ -1,0 +1,210 @@
+//! Adapters of the real thing. What the system holds is not told, so no clause speaks of it.
+ghost use Rattle.std.specs.Prelude.{◌≡◌, ◌*◌, ◌/◌, ◌-◌, ◌^◌, min, None, IfSome, IfNone};
+ghost use Rattle.std.specs.Duration.{as_nanos};
+
+use crate::clock::Clock;
+use crate::files::{Files, LoadFault, SaveFault};
+use crate::gate::{Gate, Point};
+use crate::sink::{SendFault, Sink};
+use std::alloc::Global;
+use std::fs::Files as SystemFiles;
+use std::io::{ErrorKind, Print, Read, Write};
+use std::time::{Clock as SystemClock, Duration, Instant};
+use std::{fs, io, thread};
+
+/// The files of the system, by their paths.
+#[derive(Drop)]
+pub struct DiskFiles<R> {
+    rt: R,
+    load_faults: u64,
+    save_faults: u64,
+}
+
+impl<R: SystemFiles> DiskFiles<R> {
+    /// The files that this runtime reaches.
+    pub fn new(rt: R) -> DiskFiles<R>
+        ensures contents { ⟦<DiskFiles<R> as Files>⟧.contents result ≡ None }
+        ensures load_faults { ⟦<DiskFiles<R> as Files>⟧.load_faults result ≡ 0 }
+        ensures save_faults { ⟦<DiskFiles<R> as Files>⟧.save_faults result ≡ 0 }
+    {
+        DiskFiles {
+            rt,
+            load_faults: 0,
+            save_faults: 0,
+        }
+    }
+}
+
+impl<R: SystemFiles> Files for DiskFiles<R> {
+    ghost contents = { λ _. None };
+
+    ghost load_faults = { λ f. f.load_faults };
+
+    ghost save_faults = { λ f. f.save_faults };
+
+    /// At most one byte more than `most` is read. A file that cannot be read counts a fault.
+    fn load(&mut self, alloc: Global, name: &str, most: u64) -> Result<Vec<u8>, LoadFault> {
+        match read_front(alloc, &self.rt, name, most.saturating_add(1)) {
+            Ok(text) if text.len() as u64 > most => Err(LoadFault::TooLong),
+            Ok(text) => Ok(text),
+            Err(e) if e.kind() == ErrorKind::OutOfMemory => Err(LoadFault::NoMemory),
+            Err(_) => {
+                self.load_faults = self.load_faults.saturating_add(1);
+                Err(LoadFault::Failed)
+            }
+        }
+    }
+
+    fn save(&mut self, _alloc: Global, name: &str, bytes: &[u8]) -> Result<(), SaveFault> {
+        match fs::write(&self.rt, name, bytes) {
+            Ok(()) => Ok(()),
+            Err(_) => {
+                self.save_faults = self.save_faults.saturating_add(1);
+                Err(SaveFault::Failed)
+            }
+        }
+    }
+}
+
+/// The first `limit` bytes of a file, or all where it has fewer.
+fn read_front<R: SystemFiles>(
+    alloc: Global,
+    rt: &R,
+    name: &str,
+    limit: u64,
+) -> io::Result<Vec<u8>> {
+    let mut text = Vec::new(alloc);
+    fs::open(rt, name)?.take(limit).read_to_end(&mut text)?;
+    Ok(text)
+}
+
+/// The standard output. Each put has gone out when it answers.
+#[derive(Drop)]
+pub struct StdSink<R> {
+    rt: R,
+    faults: u64,
+}
+
+impl<R: Print> StdSink<R> {
+    /// The standard output of this runtime.
+    pub fn new(rt: R) -> StdSink<R>
+        ensures held { ⟦<StdSink<R> as Sink>⟧.held result ≡ None }
+        ensures faults { ⟦<StdSink<R> as Sink>⟧.faults result ≡ 0 }
+    {
+        StdSink { rt, faults: 0 }
+    }
+}
+
+impl<R: Print> Sink for StdSink<R> {
+    ghost held = { λ _. None };
+
+    ghost faults = { λ s. s.faults };
+
+    fn put(&mut self, bytes: &[u8]) -> Result<(), SendFault> {
+        match write_out(&self.rt, bytes) {
+            Ok(()) => Ok(()),
+            Err(_) => {
+                self.faults = self.faults.saturating_add(1);
+                Err(SendFault::Failed)
+            }
+        }
+    }
+}
+
+/// Writes bytes to the standard output, and keeps none back.
+fn write_out(rt: &impl Print, bytes: &[u8]) -> io::Result<()> {
+    let mut out = io::writer(rt);
+    out.write_all(bytes)?;
+    out.flush()
+}
+
+/// The time since it was made, in ticks of a second divided by the rate. Where the system refuses the
+/// moment, a reading is the last one.
+#[derive(Drop)]
+pub struct ElapsedClock<R> {
+    rt: R,
+    began: Option<Instant>,
+    count: u64,
+    last: u64,
+    rate: u32,
+}
+
+impl<R: SystemClock> ElapsedClock<R> {
+    /// A clock that is at 0 now, at one tick a second.
+    pub fn new(rt: R) -> ElapsedClock<R>
+        ensures given { ⟦<ElapsedClock<R> as Clock>⟧.given result ≡ None }
+        ensures count { ⟦<ElapsedClock<R> as Clock>⟧.count result ≡ 0 }
+        ensures last { ⟦<ElapsedClock<R> as Clock>⟧.last result ≡ 0 }
+        ensures rate { ⟦<ElapsedClock<R> as Clock>⟧.rate result ≡ 1 }
+    {
+        let began = Instant::now(&rt).ok();
+        ElapsedClock {
+            rt,
+            began,
+            count: 0,
+            last: 0,
+            rate: 1,
+        }
+    }
+}
+
+impl<R: SystemClock> Clock for ElapsedClock<R> {
+    ghost count = { λ c. c.count };
+
+    ghost last = { λ c. c.last };
+
+    ghost rate = { λ c. c.rate };
+
+    ghost given = { λ _. None };
+
+    fn begin(&mut self, per_unit: u32) {
+        self.rate = per_unit;
+    }
+
+    fn read(&mut self) -> u64 {
+        if let Some(elapsed) = since(&self.rt, self.began) {
+            self.last = ticks_in(elapsed, self.rate);
+        }
+        self.count = self.count.saturating_add(1);
+        self.last
+    }
+}
+
+/// The time since a moment, where the system told that moment and tells this one.
+fn since(rt: &impl SystemClock, began: Option<Instant>) -> Option<Duration> {
+    began?.elapsed(rt).ok()
+}
+
+/// The whole ticks in a time, at `rate` ticks a second, up to the greatest `u64`.
+fn ticks_in(time: Duration, rate: u32) -> u64
+    ensures { result ≡ min (as_nanos time * rate / 1_000_000_000) (2 ^ 64 - 1) }
+{
+    let rate = u64::from(rate);
+    let seconds = time.as_secs();
+    let nanoseconds = u64::from(time.subsec_nanos());
+    seconds
+        .saturating_mul(rate)
+        .saturating_add(nanoseconds * rate / 1_000_000_000)
+}
+
+/// A gate that holds an actor for 5 milliseconds where it has nothing to do.
+#[derive(Drop)]
+pub struct PauseGate<R> {
+    rt: R,
+}
+
+impl<R: SystemClock> PauseGate<R> {
+    /// A gate that pauses by this runtime.
+    pub fn new(rt: R) -> PauseGate<R> {
+        PauseGate { rt }
+    }
+}
+
+impl<R: SystemClock + Sync> Gate for PauseGate<R> {
+    fn pass(&self, _actor: u32, _turn: u64, point: Point) {
+        match point {
+            Point::Sprout => {}
+            Point::Idle | Point::Look => thread::sleep(&self.rt, Duration::from_millis(5)),
+        }
+    }
+}

@@ -1,0 +1,5 @@
+pub mod Begins
+pub mod Sums
+pub mod Stretches
+pub mod Moves
+pub mod Shares

@@ -1,0 +1,5 @@
+pub mod Turns
+pub mod Kept
+pub mod Told
+pub mod Closes
+pub mod Lock
