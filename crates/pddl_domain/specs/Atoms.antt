@@ -10,6 +10,7 @@ use Rattle.pddl_domain.specs.First.{fault}
 use Rattle.pddl_domain.specs.Tables.{value_of}
 use Rattle.pddl_domain.specs.Words.{is_left_out, is_variable, is_name, misfit_list, name_faults}
 
+-- a name where only a declared one may stand
 abbrev pub known_faults : Bool → ℕ → List Fault
 known_faults known at = if known then [] else fault Unknown at ∷ []
 
@@ -21,11 +22,13 @@ term_faults scope variables at text =
     else if is_name text then known_faults (list_any (bytes_eq text) scope.objects) at
     else fault Shape at ∷ []
 
+-- terms, up to the closing parenthesis
 abbrev pub terms_faults : Scope → List (List ℕ) → Trees → List Fault
 terms_faults scope variables End = []
 terms_faults scope variables (More (Leaf at text) rest) = term_faults scope variables at text ++ terms_faults scope variables rest
 terms_faults scope variables (More (Node at close parts) rest) = misfit_list at parts ++ terms_faults scope variables rest
 
+-- how many forms there are
 abbrev pub count_of : Trees → ℕ
 count_of End = 0
 count_of (More t rest) = suc (count_of rest)

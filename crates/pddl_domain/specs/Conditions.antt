@@ -12,6 +12,7 @@ use Rattle.pddl_domain.specs.Atoms.{term_faults, atom_faults}
 use Rattle.pddl_domain.specs.Expressions.{numeral_faults, operation_faults}
 use Rattle.pddl_domain.specs.Outer.{surplus_faults}
 
+-- the four orders of numbers
 abbrev pub is_order : List ℕ → Bool
 is_order text = bytes_eq text (codes "<") || bytes_eq text (codes "<=") || bytes_eq text (codes ">=") || bytes_eq text (codes ">")
 
@@ -19,6 +20,7 @@ is_order text = bytes_eq text (codes "<") || bytes_eq text (codes "<=") || bytes
 abbrev pub has_form : List ℕ → Bool
 has_form text = bytes_eq text (codes "and") || bytes_eq text (codes "not") || bytes_eq text (codes "=") || is_order text
 
+-- a symbol that is not left out: an atom may begin with it, if it has no form of its own
 abbrev pub is_atom_word : List ℕ → Bool
 is_atom_word text = is_symbol text && not (is_left_out text)
 

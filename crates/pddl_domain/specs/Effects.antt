@@ -11,6 +11,7 @@ use Rattle.pddl_domain.specs.Atoms.{atom_faults}
 use Rattle.pddl_domain.specs.Conditions.{is_atom_word, last_operand_faults}
 use Rattle.pddl_domain.specs.Outer.{surplus_faults}
 
+-- the words that begin an update of a fluent
 abbrev pub is_update : List ℕ → Bool
 is_update text = bytes_eq text (codes "increase") || bytes_eq text (codes "decrease") || bytes_eq text (codes "assign")
 

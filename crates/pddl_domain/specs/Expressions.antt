@@ -13,13 +13,14 @@ use Rattle.pddl_domain.specs.Words.{is_dash, is_symbol, is_left_out, misfit_word
 use Rattle.pddl_domain.specs.Atoms.{atom_faults, count_of}
 use Rattle.pddl_domain.specs.Outer.{surplus_faults}
 
--- what is wrong with a word that is to be a numeral
+-- what is wrong with a word that reads so as a number
 abbrev pub read_faults : Result ℤ NumberFault → ℕ → List ℕ → List Fault
 read_faults (Ok n) at text = []
 read_faults (Err NotNumber) at text = misfit_word at text
 read_faults (Err Parted) at text = fault NotWhole at ∷ []
 read_faults (Err Far) at text = fault TooLarge at ∷ []
 
+-- what is wrong with a word that is to be a numeral, whole at the scale
 abbrev pub numeral_faults : ℕ → ℕ → List ℕ → List Fault
 numeral_faults scale at text = read_faults (number_of scale text) at text
 
@@ -50,6 +51,7 @@ abbrev mutual
   second_faults scope variables scale (More (Leaf at text) rest) = numeral_faults scale at text ++ surplus_faults rest
   second_faults scope variables scale (More (Node at end parts) rest) = operation_faults scope variables scale at end parts ++ surplus_faults rest
 
+  -- what is wrong with some expressions
   pub expressions_faults : Scope → List (List ℕ) → ℕ → Trees → List Fault
   expressions_faults scope variables scale End = []
   expressions_faults scope variables scale (More (Leaf at text) rest) = numeral_faults scale at text ++ expressions_faults scope variables scale rest

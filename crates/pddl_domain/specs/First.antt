@@ -4,6 +4,7 @@ use Rattle.pddl_domain.specs.declared.fault.Fault.{Fault}
 use Rattle.pddl_domain.specs.declared.fault.Kind.{Kind}
 use Rattle.pddl_domain.specs.declared.fault.Kind.TheVariants.{Shape, LeftOut, Unknown, Arity, Twice, Cycle, NotWhole, TooLarge, ClashingTimed, OtherDomain}
 
+-- the place of a kind in the order in which kinds count at one byte
 abbrev pub rank : Kind → ℕ
 rank Shape = 0
 rank LeftOut = 1
@@ -16,9 +17,11 @@ rank TooLarge = 7
 rank ClashingTimed = 8
 rank OtherDomain = 9
 
+-- a fault at a lower byte, or of an earlier kind at the same byte
 abbrev pub goes_before : Fault → Fault → Bool
 goes_before a b = nat_lt a.at b.at || (nat_eq a.at b.at && nat_lt (rank a.kind) (rank b.kind))
 
+-- the first of two faults, each of which may be missing
 abbrev pub earlier : Option Fault → Option Fault → Option Fault
 earlier None y = y
 earlier (Some a) None = Some a
@@ -29,6 +32,7 @@ abbrev pub first : List Fault → Option Fault
 first [] = None
 first (f ∷ fs) = earlier (Some f) (first fs)
 
+-- a fault of a kind at a byte
 abbrev pub fault : Kind → ℕ → Fault
 fault kind at = record { at = at; kind = kind }
 

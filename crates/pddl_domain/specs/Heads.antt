@@ -4,7 +4,7 @@ use Rattle.std.specs.Str.{bytes_eq}
 use Rattle.pddl_tokens.specs.Trees.{Tree, Trees, Leaf, Node, End, More}
 use Rattle.pddl_domain.specs.declared.fault.Fault.{Fault}
 use Rattle.pddl_domain.specs.declared.typed.Part.{Part}
-use Rattle.pddl_domain.specs.declared.typed.Part.TheVariants.{Start, Items, Type_of}
+use Rattle.pddl_domain.specs.declared.typed.Part.TheVariants.{Start, Items, Hyphen}
 use Rattle.pddl_domain.specs.declared.typed.Rule.{Rule}
 use Rattle.pddl_domain.specs.Words.{is_dash, is_symbol, is_thing, is_left_out, misfit_word, misfit_list, name_faults}
 use Rattle.pddl_domain.specs.Typed.{typed_faults, repeat_faults, end_faults, again_faults, with_item}
@@ -31,6 +31,7 @@ again_head seen End = []
 again_head seen (More (Node first end parts) rest) = []
 again_head seen (More (Leaf head text) rest) = again_faults (is_thing text) seen head text
 
+-- the names of heads, with this one
 abbrev pub with_head : List (List ℕ) → Trees → List (List ℕ)
 with_head seen End = seen
 with_head seen (More (Node first end parts) rest) = seen
@@ -40,28 +41,31 @@ with_head seen (More (Leaf head text) rest) = with_item (is_thing text) seen tex
 abbrev pub number_faults : Part → ℕ → List ℕ → List Fault
 number_faults Start at text = misfit_word at text
 number_faults Items at text = if is_dash text then [] else misfit_word at text
-number_faults Type_of at text = if bytes_eq text (codes "number") then [] else misfit_word at text
+number_faults Hyphen at text = if bytes_eq text (codes "number") then [] else misfit_word at text
 
+-- what may follow a word
 abbrev pub behind_word : Part → List ℕ → Part
 behind_word Start text = Start
-behind_word Items text = if is_dash text then Type_of else Start
-behind_word Type_of text = Start
+behind_word Items text = if is_dash text then Hyphen else Start
+behind_word Hyphen text = Start
 
 -- a list among functions or predicates: a head, but none directly behind a hyphen
 abbrev pub listed_faults : List (List ℕ) → List (List ℕ) → Part → ℕ → ℕ → Trees → List Fault
 listed_faults types seen Start at close parts = again_head seen parts ++ head_faults types at close parts
 listed_faults types seen Items at close parts = again_head seen parts ++ head_faults types at close parts
-listed_faults types seen Type_of at close parts = misfit_list at parts
+listed_faults types seen Hyphen at close parts = misfit_list at parts
 
+-- the names of heads, with that of this list where it is a head
 abbrev pub with_listed : List (List ℕ) → Part → Trees → List (List ℕ)
 with_listed seen Start parts = with_head seen parts
 with_listed seen Items parts = with_head seen parts
-with_listed seen Type_of parts = seen
+with_listed seen Hyphen parts = seen
 
+-- what may follow a list: a hyphen only behind a function
 abbrev pub behind_list : Bool → Part → Part
 behind_list numbers Start = if numbers then Items else Start
 behind_list numbers Items = if numbers then Items else Start
-behind_list numbers Type_of = Start
+behind_list numbers Hyphen = Start
 
 -- what is wrong with the members of `:predicates`, or of `:functions`, where numbers may be named
 abbrev pub heads_faults : Bool → List (List ℕ) → ℕ → List (List ℕ) → Part → Trees → List Fault

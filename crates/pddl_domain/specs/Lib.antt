@@ -1,4 +1,5 @@
 pub mod First
+pub mod Reported
 pub mod Words
 pub mod Names
 pub mod Typed

@@ -20,6 +20,7 @@ comes_once text =
     bytes_eq text (codes ":requirements") || bytes_eq text (codes ":types") || bytes_eq text (codes ":constants")
     || bytes_eq text (codes ":predicates") || bytes_eq text (codes ":functions")
 
+-- the heads of actions
 abbrev pub is_action : List ℕ → Bool
 is_action text = bytes_eq text (codes ":action") || bytes_eq text (codes ":durative-action")
 

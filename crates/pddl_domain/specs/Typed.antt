@@ -6,7 +6,7 @@ use Rattle.pddl_tokens.specs.Trees.{Tree, Trees, Leaf, Node, End, More}
 use Rattle.pddl_domain.specs.declared.fault.Fault.{Fault}
 use Rattle.pddl_domain.specs.declared.fault.Kind.TheVariants.{Shape, Unknown, Twice}
 use Rattle.pddl_domain.specs.declared.typed.Part.{Part}
-use Rattle.pddl_domain.specs.declared.typed.Part.TheVariants.{Start, Items, Type_of}
+use Rattle.pddl_domain.specs.declared.typed.Part.TheVariants.{Start, Items, Hyphen}
 use Rattle.pddl_domain.specs.declared.typed.Rule.{Rule}
 use Rattle.pddl_domain.specs.First.{fault}
 use Rattle.pddl_domain.specs.Names.{with_name}
@@ -22,27 +22,27 @@ type_faults rule types at text = name_faults at text ++ (if rule.any_type || lis
 
 -- what may follow a word
 abbrev pub next : Part → List ℕ → Part
-next Start text = if is_dash text then Type_of else Items
-next Items text = if is_dash text then Type_of else Items
-next Type_of text = Start
+next Start text = if is_dash text then Hyphen else Items
+next Items text = if is_dash text then Hyphen else Items
+next Hyphen text = Start
 
 -- what may follow a list
 abbrev pub next_of_list : Part → Part
 next_of_list Start = Items
 next_of_list Items = Items
-next_of_list Type_of = Start
+next_of_list Hyphen = Start
 
 -- what is wrong with a word: a hyphen needs an item before it
 abbrev pub word_faults : Rule → List (List ℕ) → Part → ℕ → List ℕ → List Fault
 word_faults rule types Start at text = if is_dash text then fault Shape at ∷ [] else item_faults rule at text
 word_faults rule types Items at text = if is_dash text then [] else item_faults rule at text
-word_faults rule types Type_of at text = type_faults rule types at text
+word_faults rule types Hyphen at text = type_faults rule types at text
 
 -- a type is missing
 abbrev pub end_faults : Part → ℕ → List Fault
 end_faults Start close = []
 end_faults Items close = []
-end_faults Type_of close = fault Shape close ∷ []
+end_faults Hyphen close = fault Shape close ∷ []
 
 -- what is wrong with a typed list, up to the closing parenthesis
 abbrev pub typed_faults : Rule → List (List ℕ) → ℕ → Part → Trees → List Fault
@@ -54,12 +54,13 @@ typed_faults rule types close part (More (Node at end parts) rest) = misfit_list
 abbrev pub is_item : Rule → Part → List ℕ → Bool
 is_item rule Start text = not (is_left_out text) && (if rule.variables then is_variable text else is_name text)
 is_item rule Items text = not (is_left_out text) && (if rule.variables then is_variable text else is_name text)
-is_item rule Type_of text = false
+is_item rule Hyphen text = false
 
 -- an item that came before
 abbrev pub again_faults : Bool → List (List ℕ) → ℕ → List ℕ → List Fault
 again_faults item seen at text = if item && list_any (bytes_eq text) seen then fault Twice at ∷ [] else []
 
+-- the names, with this word where it is an item
 abbrev pub with_item : Bool → List (List ℕ) → List ℕ → List (List ℕ)
 with_item item seen text = if item then with_name seen text else seen
 

@@ -21,6 +21,7 @@ is_rest_left_out text =
     bytes_eq text (codes "*") || bytes_eq text (codes "/") || bytes_eq text (codes "scale-up") || bytes_eq text (codes "scale-down")
     || bytes_eq text (codes "#t") || bytes_eq text (codes "?duration") || bytes_eq text (codes ":derived") || bytes_eq text (codes ":constraints")
 
+-- the words of those parts of PDDL that are left out
 abbrev pub is_left_out : List ℕ → Bool
 is_left_out text = is_logic_left_out text || is_rest_left_out text
 
@@ -34,6 +35,7 @@ misfit_list at End = fault Shape at ∷ []
 misfit_list at (More (Node first close parts) rest) = fault Shape at ∷ []
 misfit_list at (More (Leaf head text) rest) = if is_left_out text then fault LeftOut head ∷ [] else fault Shape at ∷ []
 
+-- whether this character comes first
 abbrev pub begins_with : ℕ → List ℕ → Bool
 begins_with c [] = false
 begins_with c (first ∷ rest) = nat_eq first c

@@ -233,7 +233,8 @@ fn negated_fault(
     }
 }
 
-/// The first fault of a list that is to be a condition.
+/// The first fault of a list that is to be a condition: a conjunction, a literal, an object equality or a comparison.
+/// It stands at `at`, closes at `close`; numbers are whole at `scale`.
 #[cycle(conditions)]
 pub fn condition_fault(
     scope: &Scope,

@@ -29,7 +29,7 @@ fn has_effect_form(text: &[u8]) -> bool
 }
 
 /// The first fault of a list that is to be a function with its arguments.
-pub fn function_fault(scope: &Scope, variables: &Names, at: u32, parts: &[Form]) -> Option<Fault>
+fn function_fault(scope: &Scope, variables: &Names, at: u32, parts: &[Form]) -> Option<Fault>
     ensures { result ≡ first (function_faults scope.now variables.now at (trees_of parts.now)) }
 {
     match head_of(parts) {
@@ -122,7 +122,8 @@ fn deleted_fault(
     }
 }
 
-/// The first fault of a list that is to be an effect.
+/// The first fault of a list that is to be an effect of an action: a conjunction, a literal or an update.
+/// It stands at `at`, closes at `close`; numbers are whole at `scale`.
 #[cycle(effects)]
 pub fn effect_fault(
     scope: &Scope,

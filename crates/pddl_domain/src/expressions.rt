@@ -13,7 +13,7 @@ use crate::scope::Scope;
 use crate::words::{is_dash, is_left_out, is_symbol, misfit_list, misfit_word};
 use pddl_tokens::{Form, Head, NumberFault, Word, head_of, number};
 
-/// What is wrong with a word that is to be a numeral.
+/// What is wrong with a word that is to be a numeral, whole at `scale`.
 pub fn numeral_fault(scale: u32, word: &Word) -> Option<Fault>
     requires { IsScale scale }
     ensures { result ≡ first (numeral_faults scale word.now.at word.now.text) }
@@ -36,7 +36,8 @@ fn few_fault(close: u32, summands: &[Form]) -> Option<Fault>
     }
 }
 
-/// The first fault of a list that is to be an expression, but for its depth.
+/// The first fault of a list that is to be an expression, but for its depth: a sum, a difference, a negation or a
+/// function with its arguments. It stands at `at`, closes at `close`; numbers are whole at `scale`.
 #[cycle(expressions)]
 #[tactic(auto, using(crate::proofs::Firsts::first_append))]
 pub fn operation_fault(

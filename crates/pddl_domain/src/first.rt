@@ -29,7 +29,7 @@ fn goes_before(a: Fault, b: Fault) -> bool
     a.at < b.at || a.at == b.at && rank(a.kind) < rank(b.kind)
 }
 
-/// The first of two answers.
+/// The first of two faults: the one at the lower byte, at one byte the one whose kind is listed first.
 pub fn earlier(a: Option<Fault>, b: Option<Fault>) -> Option<Fault>
     ensures { result ≡ earlier a b }
 {
@@ -40,7 +40,7 @@ pub fn earlier(a: Option<Fault>, b: Option<Fault>) -> Option<Fault>
     }
 }
 
-/// A fault of a kind at a place.
+/// A fault of a kind at a byte.
 pub fn fault(kind: Kind, at: u32) -> Option<Fault>
     ensures { result ≡ Some (fault kind at) }
 {

@@ -14,7 +14,8 @@ use pddl_tokens::{Form, Head, Word, head_of};
 use std::alloc::Global;
 use tp_spec::NoMemory;
 
-/// The first fault of typed variables, each of which is to be new.
+/// The first fault of typed variables, as an action's parameters: each is to be new, and its type among `types`.
+/// `close` is the closing parenthesis of their list.
 #[tactic(auto, using(crate::proofs::Firsts::first_append))]
 pub fn variables_fault(
     alloc: Global,
@@ -81,7 +82,7 @@ fn number_fault(part: Part, word: &Word) -> Option<Fault>
                 misfit_word(word)
             }
         }
-        Part::Type_of => {
+        Part::Hyphen => {
             if text == b"number".as_slice() {
                 None
             } else {
@@ -97,12 +98,12 @@ fn behind_word(part: Part, text: &[u8]) -> Part
     match part {
         Part::Items => {
             if is_dash(text) {
-                Part::Type_of
+                Part::Hyphen
             } else {
                 Part::Start
             }
         }
-        Part::Start | Part::Type_of => Part::Start,
+        Part::Start | Part::Hyphen => Part::Start,
     }
 }
 
@@ -110,7 +111,7 @@ fn behind_list(numbers: bool, part: Part) -> Part
     ensures { result ≡ behind_list numbers part }
 {
     match part {
-        Part::Type_of => Part::Start,
+        Part::Hyphen => Part::Start,
         Part::Start | Part::Items => { if numbers { Part::Items } else { Part::Start } }
     }
 }
@@ -130,7 +131,7 @@ fn listed_fault(
     ensures seen { OnOk result (seen.new ≡ with_listed seen.old part (trees_of parts.now)) }
 {
     match part {
-        Part::Type_of => Ok(misfit_list(at, parts)),
+        Part::Hyphen => Ok(misfit_list(at, parts)),
         Part::Start | Part::Items => {
             let again = enter_head(alloc, seen, parts)?;
             let head = head_fault(alloc, types, at, close, parts)?;

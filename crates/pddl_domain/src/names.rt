@@ -8,7 +8,7 @@ use std::alloc::Global;
 use std::marker::Model;
 use tp_spec::NoMemory;
 
-/// Names in the order of their first places. Contracts see their bytes.
+/// A set of names, numbered from 0 in the order in which they were entered. Contracts see the list of their bytes.
 #[derive(Drop)]
 pub struct Names {
     names: IndexSet<Vec<u8>>,
@@ -23,6 +23,7 @@ impl Model for Names {
 }
 
 impl Names {
+    /// No names.
     pub fn new(alloc: Global) -> Names
         ensures { result ≡ [] }
     {
@@ -31,7 +32,7 @@ impl Names {
         }
     }
 
-    /// Puts a name into the table, and says where it stands and whether it is new.
+    /// Puts a name behind the others unless it is there, and answers its number and whether it is new.
     pub fn enter(&mut self, alloc: Global, name: &[u8]) -> Result<(usize, bool), NoMemory>
         ensures table { OnOk result (self.new ≡ with_name self.old name.now) }
         ensures place { IfOk result (λ r. r.0 ≡ position_or_len (bytes_eq name.now) self.old) }
@@ -48,7 +49,7 @@ impl Names {
         Ok(found)
     }
 
-    /// Where a name stands.
+    /// The number of a name.
     pub fn find(&self, name: &[u8]) -> Option<usize>
         ensures { result ≡ position (bytes_eq name.now) self.now }
     {

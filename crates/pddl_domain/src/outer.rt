@@ -141,7 +141,8 @@ fn form_fault(alloc: Global, at: u32, close: u32, parts: &[Form]) -> Result<Opti
     }
 }
 
-/// The first fault of the first pass over a domain's file: of all but actions' parts.
+/// The first fault of a domain's file, but for the parts of its actions, for types that are declared twice with
+/// two parents, and for types that are their own ancestors.
 #[tactic(auto, using(crate::proofs::Firsts::first_append))]
 pub fn declared_fault(alloc: Global, forms: &Forms) -> Result<Option<Fault>, NoMemory>
     ensures { IfOk result (λ fault. fault ≡ first (declared_faults forms.now.bytes (trees_of forms.now.forms))) }

@@ -25,7 +25,7 @@ fn comes_once(text: &[u8]) -> bool
 }
 
 /// Whether a section with this head is an action, durative or not.
-pub fn is_action(text: &[u8]) -> bool
+fn is_action(text: &[u8]) -> bool
     ensures { result ≡ is_action text.now }
 {
     text == b":action".as_slice() || text == b":durative-action".as_slice()

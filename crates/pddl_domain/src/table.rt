@@ -21,6 +21,7 @@ impl Model for Table {
 }
 
 impl Table {
+    /// No names.
     pub fn new(alloc: Global) -> Table
         ensures { result ≡ [] }
     {
@@ -36,7 +37,7 @@ impl Table {
         self.values.get(name).copied()
     }
 
-    /// Puts a name with its number into the table, where it is new.
+    /// Puts a name with its number behind the others. Where the name is there, its number stays.
     pub fn enter(&mut self, alloc: Global, name: &[u8], value: u32) -> Result<(), NoMemory>
         ensures table { OnOk result (self.new ≡ with_value self.old name.now value) }
     {

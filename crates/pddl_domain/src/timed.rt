@@ -204,7 +204,8 @@ fn over_fault(
     }
 }
 
-/// The first fault of a list that is to be a timed condition, or a timed effect.
+/// The first fault of a list that is to be a durative action's condition, or with `effects` its effect: a conjunction,
+/// or one `at start`, `at end` or, of conditions alone, `over all` (PDDL 2.1: Fox and Long 2003).
 #[cycle(timed)]
 pub fn timed_fault(
     effects: bool,

@@ -16,16 +16,21 @@ use tp_spec::NoMemory;
 /// What the items and types of a typed list are: variables or names, and any names or declared ones.
 #[derive(Clone, Copy, Debug, PartialEq, Eq)]
 pub struct Rule {
+    /// Items are variables; else they are names.
     pub variables: bool,
+    /// A type may be any name; else it is a declared one.
     pub any_type: bool,
 }
 
-/// What stands before a member of a typed list: no item of its group, an item, or a hyphen.
+/// What stands before a member of a typed list, in its group of items.
 #[derive(Clone, Copy, Debug, PartialEq, Eq)]
 pub enum Part {
+    /// Nothing yet.
     Start,
+    /// An item.
     Items,
-    Type_of,
+    /// A hyphen: the type comes next.
+    Hyphen,
 }
 
 fn item_fault(rule: Rule, word: &Word) -> Option<Fault>
@@ -54,10 +59,10 @@ fn next(part: Part, text: &[u8]) -> Part
     ensures { result ≡ next part text.now }
 {
     match part {
-        Part::Type_of => Part::Start,
+        Part::Hyphen => Part::Start,
         Part::Start | Part::Items => {
             if is_dash(text) {
-                Part::Type_of
+                Part::Hyphen
             } else {
                 Part::Items
             }
@@ -69,7 +74,7 @@ fn next_of_list(part: Part) -> Part
     ensures { result ≡ next_of_list part }
 {
     match part {
-        Part::Type_of => Part::Start,
+        Part::Hyphen => Part::Start,
         Part::Start | Part::Items => Part::Items,
     }
 }
@@ -78,7 +83,7 @@ fn word_fault(rule: Rule, types: &Names, part: Part, word: &Word) -> Option<Faul
     ensures { result ≡ first (word_faults rule types.now part word.now.at word.now.text) }
 {
     match part {
-        Part::Type_of => type_fault(rule, types, word),
+        Part::Hyphen => type_fault(rule, types, word),
         Part::Start => {
             if is_dash(word.text.as_slice()) {
                 fault(Kind::Shape, word.at)
@@ -96,12 +101,12 @@ fn word_fault(rule: Rule, types: &Names, part: Part, word: &Word) -> Option<Faul
     }
 }
 
-/// What is wrong where a typed list ends.
+/// What is wrong where a typed list ends: a type is missing behind a hyphen.
 pub fn end_fault(part: Part, close: u32) -> Option<Fault>
     ensures { result ≡ first (end_faults part close) }
 {
     match part {
-        Part::Type_of => fault(Kind::Shape, close),
+        Part::Hyphen => fault(Kind::Shape, close),
         Part::Start | Part::Items => None,
     }
 }
@@ -141,7 +146,7 @@ fn is_item(rule: Rule, part: Part, word: &Word) -> bool
     ensures { result ≡ is_item rule part word.now.text }
 {
     match part {
-        Part::Type_of => false,
+        Part::Hyphen => false,
         Part::Start | Part::Items => {
             !is_left_out(word.text.as_slice())
                 && if rule.variables {
