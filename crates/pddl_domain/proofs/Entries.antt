@@ -1,6 +1,6 @@
 -- A map read as the list of its names with their numbers.
 use Rattle.std.proofs.Common.{◌≡◌, ℕ, List, [], ◌∷◌, ◌++◌, Bool, cond, map, Option, Some, None, refl, ap, sym, ◌∙◌}
-use Rattle.std.proofs.Common.{is_some, true, false}
+use Rattle.std.proofs.Common.{is_some, false}
 use Rattle.std.proofs.lemmas.List.{map-append}
 use Rattle.std.specs.Map.{lookup}
 use Rattle.pddl_domain.specs.Tables.{value_of, with_value}

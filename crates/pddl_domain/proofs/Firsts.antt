@@ -1,9 +1,9 @@
 -- The first of two lists.
-use Rattle.std.proofs.Common.{◌≡◌, ◌⊎◌, cond, ℕ, Bool, true, false, List, [], ◌∷◌, ◌++◌, ◌+◌, ◌<◌, length, get_or, drop, Option, Some, None, refl, ap, sym, ◌∙◌, arith}
+use Rattle.std.proofs.Common.{◌≡◌, ℕ, List, [], ◌∷◌, ◌++◌, ◌+◌, ◌<◌, length, get_or, drop, Option, Some, None, refl, ap, sym, ◌∙◌, arith}
 use Rattle.std.proofs.lemmas.List.{at_drop_more}
 use Rattle.std.proofs.lemmas.Bool.Decides.{nat_tests}
 use Rattle.pddl_domain.specs.declared.fault.Fault.{Fault}
-use Rattle.pddl_domain.specs.First.{first, earlier, goes_before, rank}
+use Rattle.pddl_domain.specs.First.{first, earlier}
 
 pub earlier_none : (x : Option Fault) → earlier x None ≡ x
 earlier_none None = refl

@@ -1,8 +1,8 @@
 -- The first of some faults is one of them, and none of them goes before it.
-use Rattle.std.proofs.Common.{◌≡◌, ◌⊎◌, inl, inr, ℕ, Bool, true, false, cond, List, [], ◌∷◌, Option, Some, None, refl, sym, subst, ap, ◌∙◌, arith}
+use Rattle.std.proofs.Common.{◌≡◌, inl, inr, Bool, true, false, cond, List, [], ◌∷◌, Option, Some, None, refl, sym, subst, arith}
 use Rattle.std.proofs.lemmas.Bool.Decides.{nat_tests}
 use Rattle.pddl_domain.specs.declared.fault.Fault.{Fault}
-use Rattle.pddl_domain.specs.First.{first, earlier, goes_before, rank, IsIn, IsLeast}
+use Rattle.pddl_domain.specs.First.{first, earlier, goes_before, IsIn, IsLeast}
 
 -- where none is listed there is no first one
 pub first_none : (fs : List Fault) → first fs ≡ None → fs ≡ []

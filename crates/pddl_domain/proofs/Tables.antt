@@ -1,14 +1,11 @@
 -- A table read as the list of its names.
-use Rattle.std.proofs.Common.{◌≡◌, ℕ, suc, Bool, true, false, not, ◌||◌, ◌+◌, ◌<◌, get_or, drop, Option, cond, List, [], ◌∷◌, ◌++◌, length, map, position, Some, None, refl, ap, sym, ◌∙◌, subst, nat_lt}
-use Rattle.std.specs.List.{list_any, prefix_len, position_or_len}
+use Rattle.std.proofs.Common.{◌≡◌, ℕ, Bool, true, false, not, ◌||◌, ◌+◌, cond, List, [], ◌∷◌, ◌++◌, length, map, position, Some, None, refl, ap, sym, ◌∙◌, nat_lt}
+use Rattle.std.specs.List.{list_any, prefix_len}
 use Rattle.std.specs.Str.{bytes_eq}
-use Rattle.std.proofs.lemmas.List.{map-append, length-map, at_drop_more}
+use Rattle.std.proofs.lemmas.List.{map-append, length-map}
 use Rattle.std.specs.declared.alloc.Global.{Global}
 use Rattle.std.specs.declared.vec.Vec.{Vec}
-use Rattle.pddl_domain.specs.declared.fault.Fault.{Fault}
-use Rattle.pddl_domain.specs.First.{first, earlier}
-use Rattle.pddl_domain.proofs.Firsts.{first_onto}
-use Rattle.pddl_domain.specs.Names.{with_name, is_new}
+use Rattle.pddl_domain.specs.Names.{with_name}
 
 pub any_map : {X Y : Type 0} (p : Y → Bool) (f : X → Y) (xs : List X) → list_any p (map f xs) ≡ list_any (λ x. p (f x)) xs
 any_map p f [] = refl

@@ -1,8 +1,8 @@
 -- Terms, and atoms and function terms over what is declared.
-use Rattle.std.specs.Prelude.{ℕ, suc, Bool, true, false, not, ◌&&◌, nat_eq, if◌then◌else◌, List, [], ◌∷◌, ◌++◌, Option, Some, None}
+use Rattle.std.specs.Prelude.{ℕ, suc, Bool, nat_eq, if◌then◌else◌, List, [], ◌∷◌, ◌++◌, Option, Some, None}
 use Rattle.std.specs.List.{list_any}
 use Rattle.std.specs.Str.{bytes_eq}
-use Rattle.pddl_tokens.specs.Trees.{Tree, Trees, Leaf, Node, End, More}
+use Rattle.pddl_tokens.specs.Trees.{Trees, Leaf, Node, End, More}
 use Rattle.pddl_domain.specs.declared.fault.Fault.{Fault}
 use Rattle.pddl_domain.specs.declared.fault.Kind.TheVariants.{Shape, LeftOut, Unknown, Arity}
 use Rattle.pddl_domain.specs.declared.scope.Scope.{Scope}

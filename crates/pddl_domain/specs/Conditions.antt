@@ -2,7 +2,7 @@
 use Rattle.std.specs.Prelude.{ℕ, Bool, true, false, not, ◌&&◌, ◌||◌, is_some, if◌then◌else◌, List, [], ◌∷◌, ◌++◌, codes}
 use Rattle.std.specs.Str.{bytes_eq}
 use Rattle.pddl_tokens.specs.Numbers.{numeral_of}
-use Rattle.pddl_tokens.specs.Trees.{Tree, Trees, Leaf, Node, End, More}
+use Rattle.pddl_tokens.specs.Trees.{Trees, Leaf, Node, End, More}
 use Rattle.pddl_domain.specs.declared.fault.Fault.{Fault}
 use Rattle.pddl_domain.specs.declared.fault.Kind.TheVariants.{Shape, LeftOut}
 use Rattle.pddl_domain.specs.declared.scope.Scope.{Scope}

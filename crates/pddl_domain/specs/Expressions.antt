@@ -1,10 +1,10 @@
 -- Numeric expressions: numerals, function terms, sums of two or more, differences, and negations.
-use Rattle.std.specs.Prelude.{ℕ, ℤ, Bool, true, false, not, ◌&&◌, nat_lt, if◌then◌else◌, List, [], ◌∷◌, ◌++◌, Result, Ok, Err, codes}
+use Rattle.std.specs.Prelude.{ℕ, ℤ, not, ◌&&◌, nat_lt, if◌then◌else◌, List, [], ◌∷◌, ◌++◌, Result, Ok, Err, codes}
 use Rattle.std.specs.Str.{bytes_eq}
 use Rattle.pddl_tokens.specs.declared.numbers.NumberFault.{NumberFault}
 use Rattle.pddl_tokens.specs.declared.numbers.NumberFault.TheVariants.{NotNumber, NotWhole as Parted, TooLarge as Far}
 use Rattle.pddl_tokens.specs.Numbers.{number_of}
-use Rattle.pddl_tokens.specs.Trees.{Tree, Trees, Leaf, Node, End, More}
+use Rattle.pddl_tokens.specs.Trees.{Trees, Leaf, Node, End, More}
 use Rattle.pddl_domain.specs.declared.fault.Fault.{Fault}
 use Rattle.pddl_domain.specs.declared.fault.Kind.TheVariants.{Shape, NotWhole, TooLarge}
 use Rattle.pddl_domain.specs.declared.scope.Scope.{Scope}

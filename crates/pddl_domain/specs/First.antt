@@ -1,5 +1,5 @@
 -- The first of some faults: the least place, and at one place the order of the kinds.
-use Rattle.std.specs.Prelude.{◌≡◌, ℕ, ◌&&◌, ◌||◌, ◌⊎◌, Bool, true, false, nat_lt, nat_eq, if◌then◌else◌, List, [], ◌∷◌, Option, Some, None}
+use Rattle.std.specs.Prelude.{◌≡◌, ℕ, ◌&&◌, ◌||◌, ◌⊎◌, Bool, false, nat_lt, nat_eq, if◌then◌else◌, List, [], ◌∷◌, Option, Some, None}
 use Rattle.pddl_domain.specs.declared.fault.Fault.{Fault}
 use Rattle.pddl_domain.specs.declared.fault.Kind.{Kind}
 use Rattle.pddl_domain.specs.declared.fault.Kind.TheVariants.{Shape, LeftOut, Unknown, Arity, Twice, Cycle, NotWhole, TooLarge, ClashingTimed, OtherDomain}

@@ -1,7 +1,7 @@
 -- The form of a domain: one list `(define (domain NAME) section ..)` in the file.
-use Rattle.std.specs.Prelude.{ℕ, Bool, true, false, if◌then◌else◌, List, [], ◌∷◌, ◌++◌, codes}
+use Rattle.std.specs.Prelude.{ℕ, if◌then◌else◌, List, [], ◌∷◌, ◌++◌, codes}
 use Rattle.std.specs.Str.{bytes_eq}
-use Rattle.pddl_tokens.specs.Trees.{Tree, Trees, Leaf, Node, End, More}
+use Rattle.pddl_tokens.specs.Trees.{Trees, Leaf, Node, End, More}
 use Rattle.pddl_domain.specs.declared.fault.Fault.{Fault}
 use Rattle.pddl_domain.specs.declared.fault.Kind.TheVariants.{Shape}
 use Rattle.pddl_domain.specs.First.{fault}

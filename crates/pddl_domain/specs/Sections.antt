@@ -1,16 +1,15 @@
 -- The sections of a domain, and what is wrong with them but for actions.
-use Rattle.std.specs.Prelude.{ℕ, Bool, true, false, not, ◌&&◌, ◌||◌, if◌then◌else◌, List, [], ◌∷◌, ◌++◌, codes}
+use Rattle.std.specs.Prelude.{ℕ, Bool, false, ◌||◌, if◌then◌else◌, List, [], ◌∷◌, ◌++◌, codes}
 use Rattle.std.specs.List.{list_any}
 use Rattle.std.specs.Str.{bytes_eq}
-use Rattle.pddl_tokens.specs.Trees.{Tree, Trees, Leaf, Node, End, More}
+use Rattle.pddl_tokens.specs.Trees.{Trees, Leaf, Node, End, More}
 use Rattle.pddl_domain.specs.declared.fault.Fault.{Fault}
 use Rattle.pddl_domain.specs.declared.fault.Kind.TheVariants.{Shape, Twice}
 use Rattle.pddl_domain.specs.declared.typed.Part.TheVariants.{Start}
 use Rattle.pddl_domain.specs.declared.typed.Rule.{Rule}
 use Rattle.pddl_domain.specs.First.{fault}
-use Rattle.pddl_domain.specs.Names.{with_name}
 use Rattle.pddl_domain.specs.Words.{begins_with, misfit_word, misfit_list}
-use Rattle.pddl_domain.specs.Typed.{typed_faults, repeat_faults, again_faults, with_item}
+use Rattle.pddl_domain.specs.Typed.{typed_faults, repeat_faults, with_item}
 use Rattle.pddl_domain.specs.Types.{types_faults}
 use Rattle.pddl_domain.specs.Heads.{heads_faults}
 

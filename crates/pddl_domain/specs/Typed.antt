@@ -1,8 +1,8 @@
 -- Typed lists: items, each group of them with a hyphen and its type behind it or without.
-use Rattle.std.specs.Prelude.{ℕ, Bool, true, false, not, ◌&&◌, ◌||◌, if◌then◌else◌, List, [], ◌∷◌, ◌++◌}
+use Rattle.std.specs.Prelude.{ℕ, Bool, false, not, ◌&&◌, ◌||◌, if◌then◌else◌, List, [], ◌∷◌, ◌++◌}
 use Rattle.std.specs.List.{list_any}
 use Rattle.std.specs.Str.{bytes_eq}
-use Rattle.pddl_tokens.specs.Trees.{Tree, Trees, Leaf, Node, End, More}
+use Rattle.pddl_tokens.specs.Trees.{Trees, Leaf, Node, End, More}
 use Rattle.pddl_domain.specs.declared.fault.Fault.{Fault}
 use Rattle.pddl_domain.specs.declared.fault.Kind.TheVariants.{Shape, Unknown, Twice}
 use Rattle.pddl_domain.specs.declared.typed.Part.{Part}

@@ -1,4 +1,4 @@
-ghost use Rattle.std.specs.Prelude.{◌≡◌, IfOk, OnOk, OnErr, [], position};
+ghost use Rattle.std.specs.Prelude.{◌≡◌, IfOk, OnOk, [], position};
 ghost use Rattle.std.specs.List.{list_any, position_or_len};
 ghost use Rattle.std.specs.Str.{bytes_eq};
 ghost use Rattle.pddl_domain.specs.Names.{with_name, is_new};

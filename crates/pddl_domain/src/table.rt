@@ -1,4 +1,4 @@
-ghost use Rattle.std.specs.Prelude.{◌≡◌, IfOk, OnOk, [], is_none};
+ghost use Rattle.std.specs.Prelude.{◌≡◌, OnOk, []};
 ghost use Rattle.pddl_domain.specs.Tables.{value_of, with_value};
 
 use indexmap::IndexMap;

@@ -1,4 +1,4 @@
-ghost use Rattle.std.specs.Prelude.{◌≡◌, IfOk, []};
+ghost use Rattle.std.specs.Prelude.{◌≡◌, IfOk};
 ghost use Rattle.pddl_tokens.specs.Trees.{trees_of};
 ghost use Rattle.pddl_domain.specs.First.{first};
 ghost use Rattle.pddl_domain.specs.Types.{type_names, types_faults};

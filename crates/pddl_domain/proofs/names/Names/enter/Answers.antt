@@ -1,5 +1,5 @@
-use Rattle.std.proofs.Common.{◌≡◌, ℕ, List, map, not, ap, sym, ◌∙◌}
-use Rattle.std.specs.List.{list_any, position_or_len}
+use Rattle.std.proofs.Common.{ℕ, List, map, not, ap, sym, ◌∙◌}
+use Rattle.std.specs.List.{position_or_len}
 use Rattle.std.specs.Str.{bytes_eq}
 use Rattle.pddl_domain.specs.Names.{with_name, is_new}
 use Rattle.pddl_domain.proofs.Tables.{items_of, table_with, prefix_map, any_map}

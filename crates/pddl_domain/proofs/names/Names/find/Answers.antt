@@ -1,4 +1,4 @@
-use Rattle.std.proofs.Common.{◌≡◌, ℕ, List, position, ap, sym, ◌∙◌}
+use Rattle.std.proofs.Common.{ℕ, List, position, ap, sym, ◌∙◌}
 use Rattle.std.specs.Str.{bytes_eq}
 use Rattle.pddl_domain.proofs.Tables.{items_of, position_map}
 use Rattle.pddl_domain.proofs.names.Names.find.Goals as goal
