@@ -1,0 +1,33 @@
+-- A table read as the list of its names.
+use Rattle.std.proofs.Common.{◌≡◌, ℕ, Bool, true, false, not, ◌||◌, ◌+◌, cond, List, [], ◌∷◌, ◌++◌, length, map, position, Some, None, refl, ap, sym, ◌∙◌, nat_lt}
+use Rattle.std.specs.List.{list_any, prefix_len}
+use Rattle.std.specs.Str.{bytes_eq}
+use Rattle.std.proofs.lemmas.List.{map-append, length-map}
+use Rattle.std.specs.declared.alloc.Global.{Global}
+use Rattle.std.specs.declared.vec.Vec.{Vec}
+use Rattle.pddl_domain.specs.Names.{with_name}
+
+pub any_map : {X Y : Type 0} (p : Y → Bool) (f : X → Y) (xs : List X) → list_any p (map f xs) ≡ list_any (λ x. p (f x)) xs
+any_map p f [] = refl
+any_map p f (x ∷ xs) = ap (λ b. p (f x) || b) (any_map p f xs)
+
+pub prefix_map : {X Y : Type 0} (p : Y → Bool) (f : X → Y) (xs : List X) → prefix_len p (map f xs) ≡ prefix_len (λ x. p (f x)) xs
+prefix_map p f [] = refl
+prefix_map p f (x ∷ xs) = ap (λ n. cond (p (f x)) (1 + n) 0) (prefix_map p f xs)
+
+pub position_map : {X Y : Type 0} (p : Y → Bool) (f : X → Y) (xs : List X) → position p (map f xs) ≡ position (λ x. p (f x)) xs
+position_map p f xs =
+    ap (λ n. cond (nat_lt n (length (map f xs))) (Some n) None) (prefix_map (λ y. not (p y)) f xs)
+    ∙ ap (λ m. cond (nat_lt (prefix_len (λ x. not (p (f x))) xs) m) (Some (prefix_len (λ x. not (p (f x))) xs)) None) (length-map xs f)
+
+map_choice : {X Y : Type 0} (b : Bool) (f : X → Y) (xs : List X) (x : X) → map f (cond b xs (xs ++ x ∷ [])) ≡ cond b (map f xs) (map f xs ++ f x ∷ [])
+map_choice true f xs x = refl
+map_choice false f xs x = map-append f xs (x ∷ [])
+
+pub table_with : {X : Type 0} (key : X → List ℕ) (xs : List X) (x : X) → map key (cond (list_any (λ y. bytes_eq (key x) (key y)) xs) xs (xs ++ x ∷ [])) ≡ with_name (map key xs) (key x)
+table_with key xs x =
+    map_choice (list_any (λ y. bytes_eq (key x) (key y)) xs) key xs x
+    ∙ ap (λ b. cond b (map key xs) (map key xs ++ key x ∷ [])) (sym (any_map (bytes_eq (key x)) key xs))
+
+abbrev pub items_of : Vec ℕ Global → List ℕ
+items_of v = v.items

@@ -1,0 +1,15 @@
+pub mod First
+pub mod Reported
+pub mod Words
+pub mod Names
+pub mod Typed
+pub mod Heads
+pub mod Types
+pub mod Sections
+pub mod Outer
+pub mod Tables
+pub mod Atoms
+pub mod Expressions
+pub mod Conditions
+pub mod Effects
+pub mod Timed
