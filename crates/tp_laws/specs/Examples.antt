@@ -1,9 +1,12 @@
 -- Small problems and plans against which the definitions are checked.
 use Rattle.std.specs.Prelude.{ℕ, ◌^◌, true, false, List, [], ◌∷◌, Some, ℤ, pos, codes}
 use Rattle.tp_spec.specs.WellFormed.{Ground}
+use Rattle.tp_spec.specs.declared.event.Event.{Event}
+use Rattle.tp_spec.specs.declared.event.Event.TheVariants.{Tick, Take, Expand, Publish}
 use Rattle.tp_spec.specs.declared.plan.Limits.{Limits}
 use Rattle.tp_spec.specs.declared.plan.Mark.{Mark}
 use Rattle.tp_spec.specs.declared.plan.Item.{Item}
+use Rattle.tp_spec.specs.declared.plan.Item.TheVariants.{Start}
 use Rattle.tp_spec.specs.declared.plan.Plan.{Plan}
 use Rattle.tp_spec.specs.declared.plan.Timed.{Timed}
 use Rattle.tp_spec.specs.declared.expr.Expr.TheVariants.{Number, Fluent}
@@ -150,3 +153,9 @@ opens i = record { fresh = true; item = i }
 
 abbrev pub joins : Item → Mark
 joins i = record { fresh = false; item = i }
+
+-- the search for a plan of the lamp: the root is expanded by its one mark, and the child is published
+abbrev pub pressed : List Event
+pressed =
+    Tick 1 0 ∷ Take 1 0 ∷ Tick 1 0 ∷ Expand 1 0 (opens (Start 0) ∷ [])
+    ∷ Tick 1 0 ∷ Take 1 1 ∷ Tick 1 0 ∷ Publish 1 1 (plan (act 0 0 0 ∷ []) 0) ∷ []

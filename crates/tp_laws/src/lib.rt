@@ -8,6 +8,7 @@ mod laws;
 
 pub use early::{covered_plans, live_marks, live_words, plain_problems, plans_of_words};
 pub use examples::{
-    goal_at_start, invariants_given_together, spelled_words, states_after, unsafe_plans,
+    busy_histories, goal_at_start, invariants_given_together, printed_texts, spelled_words,
+    states_after, unsafe_plans,
 };
 pub use laws::{end_of_word, nothing_happens, order_of_items, states_read};
