@@ -16,7 +16,7 @@ use Rattle.tp_laws.specs.Early.{IsEarly}
 use Rattle.tp_laws.proofs.EarlyLists.{each-in, each-true, in-left, in-right}
 
 -- a node of another id stays
-in-without : (id : ℕ) (n : Node) (ns : List Node) → (n.id == id) ≡ false → IsIn n ns → IsIn n (without id ns)
+pub in-without : (id : ℕ) (n : Node) (ns : List Node) → (n.id == id) ≡ false → IsIn n ns → IsIn n (without id ns)
 in-without id n [] e h = absurd h
 in-without id n (m ∷ ns) e (inl same) = subst (λ b. IsIn n (cond b (m ∷ without id ns) (without id ns))) (sym (ap (λ k. not (k.id == id)) same ∙ ap not e)) (inl same)
 in-without id n (m ∷ ns) e (inr h) = elim (not (m.id == id)) as (λ b. IsIn n (cond b (m ∷ without id ns) (without id ns))) [ true ↦ inr (in-without id n ns e h) | false ↦ in-without id n ns e h ]
@@ -28,7 +28,7 @@ child_of_mark w made (b ∷ marks) a (inl e) = (record { id = made; word = w ++ 
 child_of_mark w made (b ∷ marks) a (inr h) = let r = child_of_mark w (suc made) marks a h in (r.0, inr r.1, r.2)
 
 -- the word that an id stands for is the word of each node of this id
-word_of-in : (id : ℕ) (n : Node) (ns : List Node) → each_pair (λ a b. not (a.id == b.id)) ns ≡ true → IsIn n ns → (n.id == id) ≡ true → word_of id ns ≡ n.word
+pub word_of-in : (id : ℕ) (n : Node) (ns : List Node) → each_pair (λ a b. not (a.id == b.id)) ns ≡ true → IsIn n ns → (n.id == id) ≡ true → word_of id ns ≡ n.word
 word_of-in id n [] apart h e = absurd h
 word_of-in id n (m ∷ ns) apart (inl same) e = ap (λ b. cond b m.word (word_of id ns)) (ap (λ k. k.id == id) same ∙ e) ∙ ap (λ k. k.word) same
 word_of-in id n (m ∷ ns) apart (inr h) e = by_test (word_of-in id n ns (and_parts _ _ apart).1 h e) (m.id == id) refl where

@@ -14,3 +14,4 @@ pub mod EarlyFronts
 pub mod EarlyCover
 pub mod EarlyTold
 pub mod EarlyPlans
+pub mod EarlyMarkLemmas

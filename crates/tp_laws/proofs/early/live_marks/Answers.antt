@@ -1,22 +1,8 @@
-use Rattle.std.proofs.Common.{◌++◌, [], ◌∷◌}
-use Rattle.tp_spec.specs.Words.{Sound, at_start}
-use Rattle.tp_laws.specs.Early.{consecutive}
-use Rattle.tp_laws.proofs.EarlyPlain.{is_instant}
-use Rattle.tp_laws.proofs.EarlyLive.{schedule-short, short-schedule}
-use Rattle.tp_laws.proofs.EarlyReading.{follow-append, follow-back}
-use Rattle.tp_laws.proofs.EarlyTold.{starts-count}
+use Rattle.tp_laws.proofs.EarlyMarkLemmas.{live-by-mark, marks-are-starts}
 use Rattle.tp_laws.proofs.early.live_marks.Goals as goal
 
 pub returns-clause-live : goal.returns-clause-live
-returns-clause-live c p l h w a live = (
-  λ more. (
-    (follow-back p (at_start p) w (a ∷ []) more.sound.follows).0,
-    short-schedule p (is_instant p h) l (w ++ a ∷ []) more.sound more.schedule more.is,
-  ),
-  λ asked.
-      let sound : Sound p (w ++ a ∷ []) = record { follows = follow-append p (at_start p) w (a ∷ []) live.sound.follows (asked.0, tt) } in
-      record { sound = sound; schedule = consecutive; is = schedule-short p (is_instant p h) l (w ++ a ∷ []) sound asked.1 },
-)
+returns-clause-live c = live-by-mark
 
 pub returns-clause-starts : goal.returns-clause-starts
-returns-clause-starts c p l h w sound = starts-count p (is_instant p h) w sound
+returns-clause-starts c = marks-are-starts
