@@ -1,0 +1,11 @@
+pub mod Lists
+pub mod Free
+pub mod Order
+pub mod Pushed
+pub mod Rising
+pub mod Standing
+pub mod Ticks
+pub mod Quiet
+pub mod Walk
+pub mod Judgement
+pub mod Broken

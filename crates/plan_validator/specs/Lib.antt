@@ -1,0 +1,5 @@
+pub mod Verdicts
+pub mod Acts
+pub mod Standings
+pub mod Course
+pub mod Laws
