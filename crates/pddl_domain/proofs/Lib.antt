@@ -1,5 +1,2 @@
-pub mod Firsts
-pub mod Least
-pub mod Tables
-pub mod Entries
-pub mod Counts
+pub mod Ancestors
+pub mod Sorts

@@ -2,12 +2,12 @@
 use Rattle.std.specs.Prelude.{ℕ, Bool, true, false, not, ◌&&◌, if◌then◌else◌, List, [], ◌++◌, codes}
 use Rattle.std.specs.Str.{bytes_eq}
 use Rattle.pddl_tokens.specs.Trees.{Trees, Leaf, Node, End, More}
-use Rattle.pddl_domain.specs.declared.fault.Fault.{Fault}
-use Rattle.pddl_domain.specs.declared.typed.Part.{Part}
-use Rattle.pddl_domain.specs.declared.typed.Part.TheVariants.{Start, Items, Hyphen}
-use Rattle.pddl_domain.specs.declared.typed.Rule.{Rule}
-use Rattle.pddl_domain.specs.Words.{is_dash, is_symbol, is_thing, is_left_out, misfit_word, misfit_list, name_faults}
-use Rattle.pddl_domain.specs.Typed.{typed_faults, repeat_faults, end_faults, again_faults, with_item}
+use Rattle.pddl_parts.specs.declared.faults.Fault.{Fault}
+use Rattle.pddl_parts.specs.declared.typed.Part.{Part}
+use Rattle.pddl_parts.specs.declared.typed.Part.TheVariants.{Start, Items, Hyphen}
+use Rattle.pddl_parts.specs.declared.typed.Rule.{Rule}
+use Rattle.pddl_parts.specs.Words.{is_dash, is_symbol, is_thing, is_left_out, misfit_word, misfit_list, name_faults}
+use Rattle.pddl_parts.specs.Typed.{typed_faults, repeat_faults, end_faults, again_faults, with_item}
 
 -- variables, each of a type that is declared
 abbrev pub parameters : Rule

@@ -2,37 +2,13 @@
 use Rattle.std.specs.Prelude.{ℕ, if◌then◌else◌, List, [], ◌∷◌, ◌++◌, codes}
 use Rattle.std.specs.Str.{bytes_eq}
 use Rattle.pddl_tokens.specs.Trees.{Trees, Leaf, Node, End, More}
-use Rattle.pddl_domain.specs.declared.fault.Fault.{Fault}
-use Rattle.pddl_domain.specs.declared.fault.Kind.TheVariants.{Shape}
-use Rattle.pddl_domain.specs.First.{fault}
-use Rattle.pddl_domain.specs.Words.{misfit_word, misfit_list, name_faults}
+use Rattle.pddl_parts.specs.declared.faults.Fault.{Fault}
+use Rattle.pddl_parts.specs.declared.faults.Kind.TheVariants.{Shape}
+use Rattle.pddl_parts.specs.First.{fault}
+use Rattle.pddl_parts.specs.Words.{misfit_word, misfit_list, name_faults}
 use Rattle.pddl_domain.specs.Types.{type_names}
-use Rattle.pddl_domain.specs.Sections.{members_of, sections_faults}
-
--- no other form may stand behind the first one, not even one that is left out
-abbrev pub others_faults : Trees → List Fault
-others_faults End = []
-others_faults (More (Leaf at text) rest) = (fault Shape at ∷ []) ++ others_faults rest
-others_faults (More (Node at close parts) rest) = (fault Shape at ∷ []) ++ others_faults rest
-
--- members that stand where none may
-abbrev pub surplus_faults : Trees → List Fault
-surplus_faults End = []
-surplus_faults (More (Leaf at text) rest) = misfit_word at text ++ surplus_faults rest
-surplus_faults (More (Node at close parts) rest) = misfit_list at parts ++ surplus_faults rest
-
--- one name, up to the closing parenthesis
-abbrev pub one_name_faults : ℕ → Trees → List Fault
-one_name_faults close End = fault Shape close ∷ []
-one_name_faults close (More (Leaf at text) rest) = name_faults at text ++ surplus_faults rest
-one_name_faults close (More (Node at end parts) rest) = misfit_list at parts ++ surplus_faults rest
-
--- `(KEY NAME)`
-abbrev pub named_faults : List ℕ → ℕ → ℕ → Trees → List Fault
-named_faults key at close End = misfit_list at End
-named_faults key at close (More (Node first end parts) rest) = misfit_list at (More (Node first end parts) rest)
-named_faults key at close (More (Leaf head text) rest) =
-    if bytes_eq text key then one_name_faults close rest else misfit_list at (More (Leaf head text) rest)
+use Rattle.pddl_parts.specs.Members.{members_of, named_faults, others_faults}
+use Rattle.pddl_domain.specs.Sections.{sections_faults}
 
 -- what is wrong with the sections of a domain, but for actions' parts
 abbrev pub declarations_faults : Trees → List Fault

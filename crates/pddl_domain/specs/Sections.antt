@@ -3,13 +3,15 @@ use Rattle.std.specs.Prelude.{ℕ, Bool, false, ◌||◌, if◌then◌else◌, L
 use Rattle.std.specs.List.{list_any}
 use Rattle.std.specs.Str.{bytes_eq}
 use Rattle.pddl_tokens.specs.Trees.{Trees, Leaf, Node, End, More}
-use Rattle.pddl_domain.specs.declared.fault.Fault.{Fault}
-use Rattle.pddl_domain.specs.declared.fault.Kind.TheVariants.{Shape, Twice}
-use Rattle.pddl_domain.specs.declared.typed.Part.TheVariants.{Start}
-use Rattle.pddl_domain.specs.declared.typed.Rule.{Rule}
-use Rattle.pddl_domain.specs.First.{fault}
-use Rattle.pddl_domain.specs.Words.{begins_with, misfit_word, misfit_list}
-use Rattle.pddl_domain.specs.Typed.{typed_faults, repeat_faults, with_item}
+use Rattle.pddl_parts.specs.declared.faults.Fault.{Fault}
+use Rattle.pddl_parts.specs.declared.faults.Kind.TheVariants.{Shape, Twice}
+use Rattle.pddl_parts.specs.declared.typed.Part.TheVariants.{Start}
+use Rattle.pddl_parts.specs.declared.typed.Rule.{Rule}
+use Rattle.pddl_parts.specs.First.{fault}
+use Rattle.pddl_parts.specs.Words.{begins_with, misfit_word, misfit_list}
+use Rattle.pddl_parts.specs.Typed.{typed_faults, repeat_faults, with_item}
+use Rattle.pddl_parts.specs.Members.{requirements_faults}
+use Rattle.pddl_domain.specs.Parts.{is_action}
 use Rattle.pddl_domain.specs.Types.{types_faults}
 use Rattle.pddl_domain.specs.Heads.{heads_faults}
 
@@ -18,24 +20,6 @@ abbrev pub comes_once : List ℕ → Bool
 comes_once text =
     bytes_eq text (codes ":requirements") || bytes_eq text (codes ":types") || bytes_eq text (codes ":constants")
     || bytes_eq text (codes ":predicates") || bytes_eq text (codes ":functions")
-
--- the heads of actions
-abbrev pub is_action : List ℕ → Bool
-is_action text = bytes_eq text (codes ":action") || bytes_eq text (codes ":durative-action")
-
--- the members of the first section with a head
-abbrev pub members_of : List ℕ → Trees → Trees
-members_of head End = End
-members_of head (More (Leaf at text) rest) = members_of head rest
-members_of head (More (Node at close End) rest) = members_of head rest
-members_of head (More (Node at close (More (Node first end parts) members)) rest) = members_of head rest
-members_of head (More (Node at close (More (Leaf first text) members)) rest) = if bytes_eq text head then members else members_of head rest
-
--- a requirement is a keyword; which ones is not judged
-abbrev pub requirements_faults : Trees → List Fault
-requirements_faults End = []
-requirements_faults (More (Leaf at text) rest) = (if begins_with 58 text then [] else fault Shape at ∷ []) ++ requirements_faults rest
-requirements_faults (More (Node at close parts) rest) = (fault Shape at ∷ []) ++ requirements_faults rest
 
 -- names, each of a type that is declared
 abbrev pub objects : Rule
@@ -49,7 +33,7 @@ constants_faults types close members = typed_faults objects types close Start me
 abbrev pub members_faults : List (List ℕ) → List ℕ → ℕ → Trees → List Fault
 members_faults types text close members =
     if bytes_eq text (codes ":requirements") then requirements_faults members
-    else if bytes_eq text (codes ":types") then types_faults close members
+    else if bytes_eq text (codes ":types") then types_faults types close members
     else if bytes_eq text (codes ":constants") then constants_faults types close members
     else heads_faults (bytes_eq text (codes ":functions")) types close [] Start members
 

@@ -1,14 +1,11 @@
 ghost use Rattle.std.specs.Prelude.{◌≡◌, IfOk, OnOk, []};
 ghost use Rattle.pddl_tokens.specs.Trees.{trees_of};
-ghost use Rattle.pddl_domain.specs.First.{first};
+ghost use Rattle.pddl_parts.specs.First.{first};
 ghost use Rattle.pddl_domain.specs.Heads.{variables_faults, head_faults, again_head, with_head, number_faults, behind_word, listed_faults, with_listed, behind_list, heads_faults};
 
-use crate::fault::Fault;
-use crate::first::earlier;
-use crate::names::Names;
-use crate::typed::{Part, Rule, end_fault, enter_item, repeat_fault, typed_fault};
-use crate::words::{
-    is_dash, is_left_out, is_symbol, is_thing, misfit_list, misfit_word, name_fault,
+use pddl_parts::{
+    Fault, Names, Part, Rule, earlier, end_fault, enter_item, is_dash, is_left_out, is_symbol,
+    is_thing, misfit_list, misfit_word, name_fault, repeat_fault, typed_fault,
 };
 use pddl_tokens::{Form, Head, Word, head_of};
 use std::alloc::Global;
@@ -16,7 +13,7 @@ use tp_spec::NoMemory;
 
 /// The first fault of typed variables, as an action's parameters: each is to be new, and its type among `types`.
 /// `close` is the closing parenthesis of their list.
-#[tactic(auto, using(crate::proofs::Firsts::first_append))]
+#[tactic(auto, using(pddl_parts::proofs::Firsts::first_append))]
 pub fn variables_fault(
     alloc: Global,
     types: &Names,
@@ -35,7 +32,7 @@ pub fn variables_fault(
 }
 
 /// The first fault of a head, but for its name's being declared before.
-#[tactic(auto, using(crate::proofs::Firsts::first_append))]
+#[tactic(auto, using(pddl_parts::proofs::Firsts::first_append))]
 fn head_fault(
     alloc: Global,
     types: &Names,
@@ -92,7 +89,8 @@ fn number_fault(part: Part, word: &Word) -> Option<Fault>
     }
 }
 
-fn behind_word(part: Part, text: &[u8]) -> Part
+/// What stands before what follows a word among heads.
+pub fn behind_word(part: Part, text: &[u8]) -> Part
     ensures { result ≡ behind_word part text.now }
 {
     match part {
@@ -107,7 +105,8 @@ fn behind_word(part: Part, text: &[u8]) -> Part
     }
 }
 
-fn behind_list(numbers: bool, part: Part) -> Part
+/// What stands before what follows a list among heads.
+pub fn behind_list(numbers: bool, part: Part) -> Part
     ensures { result ≡ behind_list numbers part }
 {
     match part {
@@ -116,8 +115,26 @@ fn behind_list(numbers: bool, part: Part) -> Part
     }
 }
 
+/// Enters the name of a list among predicates or functions, where it is a head.
+pub fn enter_listed(
+    alloc: Global,
+    seen: &mut Names,
+    part: Part,
+    parts: &[Form],
+) -> Result<(), NoMemory>
+    ensures { OnOk result (seen.new ≡ with_listed seen.old part (trees_of parts.now)) }
+{
+    match part {
+        Part::Hyphen => Ok(()),
+        Part::Start | Part::Items => {
+            enter_head(alloc, seen, parts)?;
+            Ok(())
+        }
+    }
+}
+
 /// The first fault of a list among predicates or functions, whose name is entered where it is a head.
-#[tactic(auto, using(crate::proofs::Firsts::first_append))]
+#[tactic(auto, using(pddl_parts::proofs::Firsts::first_append))]
 fn listed_fault(
     alloc: Global,
     types: &Names,
@@ -142,7 +159,7 @@ fn listed_fault(
 
 /// The first fault of the members of `:predicates`, or of `:functions`, where `- number` may stand behind a head.
 /// `close` is the section's closing parenthesis.
-#[tactic(auto, using(crate::proofs::Firsts::first_onto))]
+#[tactic(auto, using(pddl_parts::proofs::Firsts::first_onto))]
 pub fn heads_fault(
     alloc: Global,
     numbers: bool,

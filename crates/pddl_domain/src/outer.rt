@@ -1,98 +1,16 @@
 ghost use Rattle.std.specs.Prelude.{◌≡◌, IfOk};
 ghost use Rattle.pddl_tokens.specs.Trees.{trees_of};
-ghost use Rattle.pddl_domain.specs.First.{first};
-ghost use Rattle.pddl_domain.specs.Outer.{others_faults, surplus_faults, one_name_faults, named_faults, declarations_faults, defined_faults, form_faults, declared_faults};
+ghost use Rattle.pddl_parts.specs.First.{first};
+ghost use Rattle.pddl_domain.specs.Outer.{declarations_faults, defined_faults, form_faults, declared_faults};
 
-use crate::fault::{Fault, Kind};
-use crate::first::{earlier, fault};
-use crate::sections::{members_of, sections_fault};
+use crate::sections::sections_fault;
 use crate::types::type_names;
-use crate::words::{misfit_list, misfit_word, name_fault};
+use pddl_parts::{
+    Fault, Kind, earlier, fault, members_of, misfit_list, misfit_word, named_fault, others_fault,
+};
 use pddl_tokens::{Form, Forms, Head, head_of};
 use std::alloc::Global;
 use tp_spec::NoMemory;
-
-/// The first of the forms behind the file's first one.
-#[tactic(auto, using(crate::proofs::Firsts::first_onto))]
-fn others_fault(forms: &[Form]) -> Option<Fault>
-    ensures { result ≡ first (others_faults (trees_of forms.now)) }
-{
-    let mut best = None;
-    let mut rest = forms;
-    'forms: loop {
-        match head_of(rest) {
-            Head::Missing => return best,
-            Head::Word(word, more) => {
-                best = earlier(best, fault(Kind::Shape, word.at));
-                rest = more;
-            }
-            Head::List { at, rest: more, .. } => {
-                best = earlier(best, fault(Kind::Shape, at));
-                rest = more;
-            }
-        }
-    }
-}
-
-/// The first fault of members that stand where none may.
-#[tactic(auto, using(crate::proofs::Firsts::first_onto))]
-pub fn surplus_fault(forms: &[Form]) -> Option<Fault>
-    ensures { result ≡ first (surplus_faults (trees_of forms.now)) }
-{
-    let mut best = None;
-    let mut rest = forms;
-    'members: loop {
-        match head_of(rest) {
-            Head::Missing => return best,
-            Head::Word(word, more) => {
-                best = earlier(best, misfit_word(word));
-                rest = more;
-            }
-            Head::List {
-                at,
-                parts,
-                rest: more,
-                ..
-            } => {
-                best = earlier(best, misfit_list(at, parts));
-                rest = more;
-            }
-        }
-    }
-}
-
-/// The first fault where one name is to stand before the closing parenthesis.
-#[tactic(auto, using(crate::proofs::Firsts::first_append))]
-fn one_name_fault(close: u32, forms: &[Form]) -> Option<Fault>
-    ensures { result ≡ first (one_name_faults close (trees_of forms.now)) }
-{
-    match head_of(forms) {
-        Head::Missing => fault(Kind::Shape, close),
-        Head::Word(word, rest) => earlier(name_fault(word), surplus_fault(rest)),
-        Head::List {
-            at,
-            parts,
-            rest,
-            ..
-        } => earlier(misfit_list(at, parts), surplus_fault(rest)),
-    }
-}
-
-/// The first fault of a list that is to be `(KEY NAME)`.
-fn named_fault(key: &[u8], at: u32, close: u32, parts: &[Form]) -> Option<Fault>
-    ensures { result ≡ first (named_faults key.now at close (trees_of parts.now)) }
-{
-    match head_of(parts) {
-        Head::Missing | Head::List { .. } => misfit_list(at, parts),
-        Head::Word(head, rest) => {
-            if head.text.as_slice() == key {
-                one_name_fault(close, rest)
-            } else {
-                misfit_list(at, parts)
-            }
-        }
-    }
-}
 
 /// The first fault of a domain's sections, but for actions' parts.
 fn declarations_fault(alloc: Global, sections: &[Form]) -> Result<Option<Fault>, NoMemory>
@@ -103,7 +21,7 @@ fn declarations_fault(alloc: Global, sections: &[Form]) -> Result<Option<Fault>,
 }
 
 /// The first fault behind `define`.
-#[tactic(auto, using(crate::proofs::Firsts::first_append))]
+#[tactic(auto, using(pddl_parts::proofs::Firsts::first_append))]
 fn defined_fault(alloc: Global, close: u32, forms: &[Form]) -> Result<Option<Fault>, NoMemory>
     ensures { IfOk result (λ fault. fault ≡ first (defined_faults close (trees_of forms.now))) }
 {
@@ -141,9 +59,8 @@ fn form_fault(alloc: Global, at: u32, close: u32, parts: &[Form]) -> Result<Opti
     }
 }
 
-/// The first fault of a domain's file, but for the parts of its actions, for types that are declared twice with
-/// two parents, and for types that are their own ancestors.
-#[tactic(auto, using(crate::proofs::Firsts::first_append))]
+/// The first fault of a domain's file, but for the parts of its actions.
+#[tactic(auto, using(pddl_parts::proofs::Firsts::first_append))]
 pub fn declared_fault(alloc: Global, forms: &Forms) -> Result<Option<Fault>, NoMemory>
     ensures { IfOk result (λ fault. fault ≡ first (declared_faults forms.now.bytes (trees_of forms.now.forms))) }
 {

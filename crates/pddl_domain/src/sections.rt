@@ -1,15 +1,15 @@
 ghost use Rattle.std.specs.Prelude.{◌≡◌, IfOk, OnOk, []};
 ghost use Rattle.pddl_tokens.specs.Trees.{trees_of};
-ghost use Rattle.pddl_domain.specs.First.{first};
-ghost use Rattle.pddl_domain.specs.Sections.{comes_once, is_action, members_of, requirements_faults, constants_faults, members_faults, once_faults, section_faults, with_section, sections_faults};
+ghost use Rattle.pddl_parts.specs.First.{first};
+ghost use Rattle.pddl_domain.specs.Sections.{comes_once, constants_faults, members_faults, once_faults, section_faults, with_section, sections_faults};
 
-use crate::fault::{Fault, Kind};
-use crate::first::{earlier, fault};
 use crate::heads::heads_fault;
-use crate::names::Names;
-use crate::typed::{Rule, enter_item, repeat_fault, typed_fault};
+use crate::parts::is_action;
 use crate::types::types_fault;
-use crate::words::{begins_with, misfit_list, misfit_word};
+use pddl_parts::{
+    Fault, Kind, Names, Rule, earlier, enter_item, fault, misfit_list, misfit_word, repeat_fault,
+    requirements_fault, typed_fault,
+};
 use pddl_tokens::{Form, Head, Word, head_of};
 use std::alloc::Global;
 use tp_spec::NoMemory;
@@ -24,67 +24,8 @@ fn comes_once(text: &[u8]) -> bool
         || text == b":functions".as_slice()
 }
 
-/// Whether a section with this head is an action, durative or not.
-fn is_action(text: &[u8]) -> bool
-    ensures { result ≡ is_action text.now }
-{
-    text == b":action".as_slice() || text == b":durative-action".as_slice()
-}
-
-/// The members of the first section with a head.
-pub fn members_of<'a>(head: &[u8], sections: &'a [Form]) -> &'a [Form]
-    ensures { trees_of result.now ≡ members_of head.now (trees_of sections.now) }
-{
-    let mut rest = sections;
-    'sections: loop {
-        match head_of(rest) {
-            Head::Missing => return rest,
-            Head::Word(_, more) => rest = more,
-            Head::List {
-                parts,
-                rest: more,
-                ..
-            } => {
-                match head_of(parts) {
-                    Head::Missing | Head::List { .. } => {}
-                    Head::Word(word, members) => {
-                        if word.text.as_slice() == head {
-                            return members;
-                        }
-                    }
-                }
-                rest = more;
-            }
-        }
-    }
-}
-
-/// The first fault of the members of `:requirements`.
-#[tactic(auto, using(crate::proofs::Firsts::first_onto))]
-fn requirements_fault(members: &[Form]) -> Option<Fault>
-    ensures { result ≡ first (requirements_faults (trees_of members.now)) }
-{
-    let mut best = None;
-    let mut rest = members;
-    'members: loop {
-        match head_of(rest) {
-            Head::Missing => return best,
-            Head::Word(word, more) => {
-                if !begins_with(b':', word.text.as_slice()) {
-                    best = earlier(best, fault(Kind::Shape, word.at));
-                }
-                rest = more;
-            }
-            Head::List { at, rest: more, .. } => {
-                best = earlier(best, fault(Kind::Shape, at));
-                rest = more;
-            }
-        }
-    }
-}
-
 /// The first fault of the members of `:constants`.
-#[tactic(auto, using(crate::proofs::Firsts::first_append))]
+#[tactic(auto, using(pddl_parts::proofs::Firsts::first_append))]
 fn constants_fault(
     alloc: Global,
     types: &Names,
@@ -115,7 +56,7 @@ fn members_fault(
     if text == b":requirements".as_slice() {
         Ok(requirements_fault(members))
     } else if text == b":types".as_slice() {
-        Ok(types_fault(alloc, close, members))
+        types_fault(alloc, types, close, members)
     } else if text == b":constants".as_slice() {
         constants_fault(alloc, types, close, members)
     } else {
@@ -188,7 +129,7 @@ fn enter_section(alloc: Global, seen: &mut Names, parts: &[Form]) -> Result<(), 
 }
 
 /// The first fault of the sections, but for actions' parts.
-#[tactic(auto, using(crate::proofs::Firsts::first_onto))]
+#[tactic(auto, using(pddl_parts::proofs::Firsts::first_onto))]
 pub fn sections_fault(
     alloc: Global,
     types: &Names,

@@ -1,12 +1,11 @@
 ghost use Rattle.std.specs.Prelude.{◌≡◌, IfOk};
 ghost use Rattle.pddl_tokens.specs.Trees.{trees_of};
-ghost use Rattle.pddl_domain.specs.First.{first};
+ghost use Rattle.pddl_parts.specs.First.{first};
 ghost use Rattle.pddl_domain.specs.Types.{type_names, types_faults};
 
-use crate::fault::Fault;
-use crate::names::Names;
-use crate::typed::{Rule, enter_item, typed_fault};
-use crate::words::is_thing;
+use crate::cycles::cycle_fault;
+use crate::parents::parents_of;
+use pddl_parts::{Fault, Names, Rule, earlier, enter_item, is_thing, typed_fault};
 use pddl_tokens::{Form, Head, head_of};
 use std::alloc::Global;
 use tp_spec::NoMemory;
@@ -30,13 +29,22 @@ pub fn type_names(alloc: Global, members: &[Form]) -> Result<Names, NoMemory>
     }
 }
 
-/// The first fault of the members of `:types`.
-pub fn types_fault(alloc: Global, close: u32, members: &[Form]) -> Option<Fault>
-    ensures { result ≡ first (types_faults close (trees_of members.now)) }
+/// The first fault of the members of `:types`, of which `types` are the names.
+#[tactic(auto, using(pddl_parts::proofs::Firsts::first_append))]
+pub fn types_fault(
+    alloc: Global,
+    types: &Names,
+    close: u32,
+    members: &[Form],
+) -> Result<Option<Fault>, NoMemory>
+    ensures { IfOk result (λ fault. fault ≡ first (types_faults types.now close (trees_of members.now))) }
 {
     let rule = Rule {
         variables: false,
         any_type: true,
     };
-    typed_fault(rule, &Names::new(alloc), close, members)
+    let typed = typed_fault(rule, &Names::new(alloc), close, members);
+    let (parents, again) = parents_of(alloc, types, members)?;
+    let cycle = cycle_fault(types, &parents, members)?;
+    Ok(earlier(typed, earlier(again, cycle)))
 }

@@ -1,7 +1,7 @@
 use Rattle.std.proofs.Common.{◌≡◌, []}
 use Rattle.pddl_tokens.specs.Trees.{trees_of, sizes}
-use Rattle.pddl_domain.specs.declared.typed.Part.TheVariants.{Start}
-use Rattle.pddl_domain.specs.First.{first, earlier}
+use Rattle.pddl_parts.specs.declared.typed.Part.TheVariants.{Start}
+use Rattle.pddl_parts.specs.First.{first, earlier}
 use Rattle.pddl_domain.specs.Heads.{heads_faults}
 use Rattle.pddl_domain.proofs.heads.heads_fault.Given as goal
 

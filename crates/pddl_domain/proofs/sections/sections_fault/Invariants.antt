@@ -1,6 +1,6 @@
 use Rattle.std.proofs.Common.{◌≡◌, []}
 use Rattle.pddl_tokens.specs.Trees.{trees_of, sizes}
-use Rattle.pddl_domain.specs.First.{first, earlier}
+use Rattle.pddl_parts.specs.First.{first, earlier}
 use Rattle.pddl_domain.specs.Sections.{sections_faults}
 use Rattle.pddl_domain.proofs.sections.sections_fault.Given as goal
 

@@ -1,0 +1,5 @@
+pub mod Terms
+pub mod Values
+pub mod Conditions
+pub mod Changes
+pub mod Groups

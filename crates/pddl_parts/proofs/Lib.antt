@@ -1,0 +1,5 @@
+pub mod Firsts
+pub mod Least
+pub mod Tables
+pub mod Entries
+pub mod Counts

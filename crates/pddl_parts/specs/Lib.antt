@@ -1,0 +1,13 @@
+pub mod First
+pub mod Reported
+pub mod Words
+pub mod Names
+pub mod Typed
+pub mod Items
+pub mod Tables
+pub mod Members
+pub mod Atoms
+pub mod Expressions
+pub mod Conditions
+pub mod Effects
+pub mod Timed
