@@ -1,0 +1,9 @@
+pub mod Known
+pub mod Objects
+pub mod Outer
+pub mod Literals
+pub mod Init
+pub mod Elements
+pub mod Again
+pub mod Passes
+pub mod Meaning

@@ -1,0 +1,59 @@
+-- The second pass over a problem, `:init` and `:goal`, and a problem's first fault.
+use Rattle.std.specs.Prelude.{ℕ, if◌then◌else◌, List, [], ◌∷◌, ◌++◌, Option, codes}
+use Rattle.std.specs.Str.{bytes_eq}
+use Rattle.pddl_tokens.specs.Trees.{Trees, Leaf, Node, End, More}
+use Rattle.pddl_parts.specs.declared.faults.Fault.{Fault}
+use Rattle.pddl_parts.specs.declared.faults.Kind.TheVariants.{Shape}
+use Rattle.pddl_parts.specs.declared.scope.Scope.{Scope}
+use Rattle.pddl_parts.specs.First.{first, fault}
+use Rattle.pddl_parts.specs.Words.{misfit_word}
+use Rattle.pddl_parts.specs.Members.{surplus_faults, members_of}
+use Rattle.pddl_parts.specs.Conditions.{condition_faults}
+use Rattle.pddl_meaning.specs.Terms.{behind_first}
+use Rattle.pddl_domain.specs.declared.domain.Domain.{Domain}
+use Rattle.pddl_domain.specs.Passes.{in_passes}
+use Rattle.pddl_problem.specs.Known.{scope_of}
+use Rattle.pddl_problem.specs.Outer.{declared_faults}
+use Rattle.pddl_problem.specs.Init.{elements_faults}
+use Rattle.pddl_problem.specs.Elements.{first_list}
+use Rattle.pddl_problem.specs.Again.{values_faults, clashes_faults}
+
+-- what is wrong with the members of `:init`
+abbrev pub init_faults : Scope → ℕ → Trees → List Fault
+init_faults scope scale members = elements_faults scope scale members ++ (values_faults scale [] [] members ++ clashes_faults scale [] [] members)
+
+-- what is wrong with the members of `:goal`: one condition, without variables
+abbrev pub goal_faults : Scope → ℕ → ℕ → Trees → List Fault
+goal_faults scope scale close End = fault Shape close ∷ []
+goal_faults scope scale close (More (Leaf at text) rest) = misfit_word at text ++ surplus_faults rest
+goal_faults scope scale close (More (Node at end parts) rest) = condition_faults scope [] scale at end parts ++ surplus_faults rest
+
+-- what is wrong with a section's members in the second pass
+abbrev pub state_faults : Scope → ℕ → ℕ → List ℕ → Trees → List Fault
+state_faults scope scale close text members =
+    if bytes_eq text (codes ":init") then init_faults scope scale members
+    else if bytes_eq text (codes ":goal") then goal_faults scope scale close members
+    else []
+
+abbrev pub section_faults : Scope → ℕ → ℕ → Trees → List Fault
+section_faults scope scale close End = []
+section_faults scope scale close (More (Node first end parts) members) = []
+section_faults scope scale close (More (Leaf head text) members) = state_faults scope scale close text members
+
+-- what is wrong with sections in the second pass
+abbrev pub sections_faults : Scope → ℕ → Trees → List Fault
+sections_faults scope scale End = []
+sections_faults scope scale (More (Leaf at text) rest) = sections_faults scope scale rest
+sections_faults scope scale (More (Node at close parts) rest) = section_faults scope scale close parts ++ sections_faults scope scale rest
+
+-- the second pass, over what the domain and `:objects` declare
+abbrev pub judged_faults : Domain → ℕ → Trees → List Fault
+judged_faults domain scale sections = sections_faults (scope_of domain (members_of (codes ":objects") sections)) scale sections
+
+-- the sections of a problem: what stands in the file's form behind `define` and the problem's name
+abbrev pub sections_of : Trees → Trees
+sections_of forms = behind_first (behind_first (first_list forms))
+
+-- the first fault of a problem's file with so many bytes: of the first pass that has one
+abbrev pub problem_fault : Domain → ℕ → ℕ → Trees → Option Fault
+problem_fault domain scale bytes forms = in_passes (first (declared_faults domain bytes forms)) (first (judged_faults domain scale (sections_of forms)))
