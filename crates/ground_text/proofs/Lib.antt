@@ -1,0 +1,12 @@
+pub mod Loops
+pub mod Numbers
+pub mod Members
+pub mod Words
+pub mod Blocks
+pub mod Merging
+pub mod Regroup
+pub mod Tested
+pub mod LinesLen
+pub mod Cuts
+pub mod Fronts
+pub mod Told

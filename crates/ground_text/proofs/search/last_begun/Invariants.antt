@@ -1,0 +1,16 @@
+use Rattle.std.proofs.Common.{◌-◌, ◌≤◌, ◌<◌}
+use Rattle.ground_text.specs.Reading.{parts_at}
+use Rattle.ground_text.specs.Faults.{lines}
+use Rattle.ground_text.specs.Completion.{completed, NoneBegins, SomeBegins}
+use Rattle.ground_text.proofs.search.last_begun.Given as goal
+
+abbrev pub invariant-halves : goal.invariant-halves
+invariant-halves l = record {
+  apart : l.low < l.high;
+  within : l.high ≤ 4357;
+  begins : SomeBegins l.low l.text (completed (parts_at (lines l.low l.text)));
+  ends : NoneBegins l.high l.text;
+}
+
+abbrev pub decreases-halves : goal.decreases-halves
+decreases-halves l = l.high - l.low

@@ -1,0 +1,30 @@
+ghost use Rattle.std.specs.Prelude.{◌≡◌};
+ghost use Rattle.ground_text.specs.declared.fault.LineFault.TheVariants.{NoMemory};
+
+use std::alloc::AllocError;
+use thiserror::Error;
+
+/// Why a text of lines is not read: the line with its number, from 1, or want of memory.
+#[derive(Clone, Copy, Debug, PartialEq, Eq, Error)]
+pub enum LineFault {
+    #[error("line {number} does not fit")]
+    Line { number: u32 },
+    #[error("memory was refused")]
+    NoMemory,
+}
+
+impl From<AllocError> for LineFault {
+    ghost from_gives = { λ _ e. e ≡ NoMemory };
+
+    fn from(_fault: AllocError) -> LineFault {
+        LineFault::NoMemory
+    }
+}
+
+impl From<tp_spec::NoMemory> for LineFault {
+    ghost from_gives = { λ _ e. e ≡ NoMemory };
+
+    fn from(_fault: tp_spec::NoMemory) -> LineFault {
+        LineFault::NoMemory
+    }
+}

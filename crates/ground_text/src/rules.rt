@@ -1,0 +1,107 @@
+ghost use Rattle.std.specs.Prelude.{◌≡◌};
+ghost use Rattle.tp_spec.specs.WellFormed.{IsWellFormed};
+ghost use Rattle.ground_text.specs.Parts.{ground_of};
+ghost use Rattle.ground_text.specs.Tests.{is_scale as is_scale_of, are_few_names as are_few_names_of, are_actions as are_actions_of, are_timed as are_timed_of, are_init as are_init_of, is_goal as is_goal_of, names_hold as names_hold_of, items_hold as items_hold_of, states_hold as states_hold_of, well_formed};
+
+use crate::checks::{are_conds, each_action, each_timed, ticks_rise};
+use crate::names::{all_below, are_names, names_rise, numbers_rise, told_apart};
+use crate::sections::Parts;
+use tp_spec::{Action, Cond, Name, Problem, TimedItem};
+
+fn is_scale(scale: u32) -> bool
+    ensures { result ≡ is_scale_of scale }
+{
+    scale == 1 || scale == 10 || scale == 100 || scale == 1000
+}
+
+fn are_few_names(most: usize, names: &[Name]) -> bool
+    ensures { result ≡ are_few_names_of most names.now }
+{
+    names.len() <= most && are_names(names) && names_rise(names)
+}
+
+fn are_actions(facts: usize, fluents: usize, actions: &[Action]) -> bool
+    ensures { result ≡ are_actions_of facts fluents actions.now }
+{
+    actions.len() <= 4096 && each_action(facts, fluents, actions)
+}
+
+fn are_timed(facts: usize, items: &[TimedItem]) -> bool
+    ensures { result ≡ are_timed_of facts items.now }
+{
+    items.len() <= 256 && each_timed(facts, items) && ticks_rise(items)
+}
+
+fn are_init(facts: usize, init: &[u32]) -> bool
+    ensures { result ≡ are_init_of facts init.now }
+{
+    all_below(init, facts) && numbers_rise(init)
+}
+
+fn is_goal(facts: usize, fluents: usize, goal: &[Cond]) -> bool
+    ensures { result ≡ is_goal_of facts fluents goal.now }
+{
+    goal.len() < 2_147_483_648 && are_conds(facts, fluents, goal)
+}
+
+fn names_hold(parts: &Parts) -> bool
+    ensures { result ≡ names_hold_of (ground_of parts.now) }
+{
+    is_scale(parts.scale)
+        && are_few_names(4096, parts.facts.as_slice())
+        && are_few_names(256, parts.fluents.as_slice())
+}
+
+fn items_hold(parts: &Parts) -> bool
+    ensures { result ≡ items_hold_of (ground_of parts.now) }
+{
+    let facts = parts.facts.as_slice().len();
+    let fluents = parts.fluents.as_slice().len();
+    are_actions(facts, fluents, parts.actions.as_slice())
+        && told_apart(parts.actions.as_slice())
+        && are_timed(facts, parts.timed.as_slice())
+}
+
+fn states_hold(parts: &Parts) -> bool
+    ensures { result ≡ states_hold_of (ground_of parts.now) }
+{
+    let facts = parts.facts.as_slice().len();
+    let fluents = parts.fluents.as_slice().len();
+    are_init(facts, parts.init.as_slice())
+        && parts.values.as_slice().len() == fluents
+        && is_goal(facts, fluents, parts.goal.as_slice())
+}
+
+/// Whether parts keep the rules of a problem.
+pub fn is_well_formed(parts: &Parts) -> bool
+    ensures { result ≡ well_formed (ground_of parts.now) }
+{
+    names_hold(parts) && items_hold(parts) && states_hold(parts)
+}
+
+/// The problem of parts that keep its rules.
+pub fn problem_of(parts: Parts) -> Problem
+    requires { IsWellFormed (ground_of parts) }
+    ensures { result ≡ ground_of parts }
+{
+    let Parts {
+        scale,
+        facts,
+        fluents,
+        actions,
+        timed,
+        init,
+        values,
+        goal,
+    } = parts;
+    Problem {
+        scale,
+        facts,
+        fluents,
+        actions,
+        timed,
+        init,
+        values,
+        goal,
+    }
+}
