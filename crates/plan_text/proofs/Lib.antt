@@ -1,0 +1,12 @@
+pub mod Cuts
+pub mod Lasts
+pub mod Orders
+pub mod Ticks
+pub mod Places
+pub mod Numerals
+pub mod Spells
+pub mod ActLines
+pub mod Sorting
+pub mod Whole
+pub mod Rowing
+pub mod Bounds

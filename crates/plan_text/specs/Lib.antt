@@ -1,0 +1,5 @@
+pub mod Pieces
+pub mod Acts
+pub mod Files
+pub mod Laws
+pub mod Rows
