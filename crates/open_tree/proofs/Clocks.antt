@@ -1,14 +1,17 @@
 -- How a turn and a halt keep a tree's clock and history together.
-use Rattle.std.proofs.Common.{◌≡◌, refl, sym, ap, subst, ◌∙◌, ℕ, ◌+◌, Bool, true, false, List, [], ◌∷◌, ◌++◌, length, Option, Some, None, IfSome, append_assoc, append-nil, length-append, arith, if◌then◌else◌}
+use Rattle.std.proofs.Common.{◌≡◌, refl, sym, ap, subst, ◌∙◌, ℕ, ◌+◌, Bool, true, false, List, [], ◌∷◌, ◌++◌, length, Option, Some, None, IfSome, append-nil, length-append, arith, if◌then◌else◌, fold}
+use Rattle.std.proofs.lemmas.Bool.{false≢true}
+use Rattle.std.proofs.lemmas.List.Sums.{fold-append}
 use Rattle.std.proofs.lemmas.Grind.{flat_map-append}
 use Rattle.tp_spec.specs.declared.event.Event.{Event}
 use Rattle.tp_spec.specs.declared.event.Event.TheVariants.{Tick, Halt}
 use Rattle.tp_spec.specs.declared.event.Cause.{Cause}
+use Rattle.tp_spec.specs.declared.event.Cause.TheVariants.{Memory}
 use Rattle.tp_spec.specs.Machine.{readings, ticks, reading_of}
 use Rattle.tp_world.specs.Counts.{count_after, one_more}
 use Rattle.tp_world.specs.Readings.{reading_at, AreNext}
 use Rattle.tp_world.proofs.ReadingsLemmas.{AreNext-read}
-use Rattle.open_tree.specs.Turns.{IsTurn, IsClocked}
+use Rattle.open_tree.specs.Turns.{IsTurn, IsClocked, IsLatest}
 
 readings-append : (es fs : List Event) → readings (es ++ fs) ≡ readings es ++ readings fs
 readings-append es fs = flat_map-append reading_of es fs
@@ -61,3 +64,23 @@ next_none (Some xs) b = λ k below. absurd (omega (arith, below))
 -- before the first turn
 pub clocked_first : (b : ℕ) (told : Option (List ℕ)) {history : List Event} → history ≡ [] → b ≡ count_after b 0 → IsClocked b b told told history false
 clocked_first b told {history} none still = subst (λ h. IsClocked b b told told h false) (sym none) (record { counted = still; same = refl; next = next_none told b })
+
+-- the last reading
+
+pub latest_turn : {b last : ℕ} {old new : List Event} {actor r : ℕ} {spare : Bool} → spare ≡ false → IsTurn old new actor r → last ≡ r → IsLatest b last new spare
+latest_turn {b} {last} {old} {new} {actor} {r} exact t is = record {
+  latest = λ _. is ∙ sym (ap (fold (λ earlier x. x) b) (readings-turn t) ∙ fold-append (λ earlier x. x) b (readings old) (r ∷ []));
+  behind = λ spare. absurd (false≢true (sym exact ∙ spare));
+}
+
+pub latest_halt : {b last : ℕ} {new : List Event} (old : List Event) → new ≡ old ++ Halt Memory ∷ [] → IsLatest b last new true
+latest_halt {b} {last} {new} old is = record { latest = λ e. absurd (false≢true (sym e)); behind = λ _. (old, is) }
+
+pub latest_stop : {b last : ℕ} {old new : List Event} {spare : Bool} (cause : Cause) → spare ≡ false → IsLatest b last old spare → new ≡ old ++ Halt cause ∷ [] → IsLatest b last new spare
+latest_stop {b} {last} {old} {new} {spare} cause exact h is = record {
+  latest = λ e. h.latest e ∙ ap (fold (λ earlier x. x) b) (sym (ap readings is ∙ readings-append old (Halt cause ∷ []) ∙ append-nil (readings old)));
+  behind = λ more. absurd (false≢true (sym exact ∙ more));
+}
+
+pub latest_first : (b : ℕ) {history : List Event} → history ≡ [] → IsLatest b b history false
+latest_first b none = record { latest = λ _. sym (ap (λ h. fold (λ earlier x. x) b (readings h)) none); behind = λ more. absurd (false≢true more) }

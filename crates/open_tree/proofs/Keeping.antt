@@ -5,7 +5,8 @@ use Rattle.std.proofs.lemmas.List.Folds.{list_any-append}
 use Rattle.tp_spec.specs.declared.event.Event.{Event}
 use Rattle.tp_spec.specs.declared.event.Event.TheVariants.{Tick, Halt}
 use Rattle.tp_spec.specs.declared.event.Cause.{Cause}
-use Rattle.tp_spec.specs.Machine.{readings, reading_of}
+use Rattle.tp_spec.specs.declared.event.Cause.TheVariants.{Memory}
+use Rattle.tp_spec.specs.Machine.{readings}
 use Rattle.tp_world.specs.Counts.{one_more}
 use Rattle.tp_world.specs.Readings.{reading_at}
 use Rattle.open_tree.specs.Views.{SproutsView}
@@ -14,7 +15,7 @@ use Rattle.open_tree.specs.Answers.{IsAnswered, is_over_answer}
 use Rattle.open_tree.specs.Keeps.{Keeps}
 use Rattle.open_tree.specs.declared.job.Merged.{Merged}
 use Rattle.open_tree.specs.declared.job.Merged.TheVariants.{Done, Stale, Over}
-use Rattle.open_tree.proofs.Clocks.{clocked_turn, clocked_halt}
+use Rattle.open_tree.proofs.Clocks.{latest_turn, latest_halt, latest_stop, clocked_turn, clocked_halt, clocked_stop}
 
 holds_none : (deed end : Option Event) → HoldsNone deed → HoldsNone end → readings (event_list deed ++ event_list end) ≡ []
 holds_none None None h k = refl
@@ -35,12 +36,12 @@ outcome_turn : {old mid new : List Event} (rest : List Event) (actor r : ℕ) �
 outcome_turn {old} {mid} {new} rest actor r none e is =
     ap has_outcome (is ∙ ap (λ x. x ++ Tick actor r ∷ rest) e) ∙ list_any-append is_outcome old (Tick actor r ∷ rest) ∙ ap (λ b. b || has_outcome rest) none
 
-pub keeps_turn : {len cap len' cap' rate rate' scale b n m : ℕ} {told now now' : Option (List ℕ)} {old mid new : List Event} {over spare over' : Bool}
-    (deed end : Option Event) (actor r : ℕ) → over ≡ false → Keeps len cap rate scale b n told now old over spare → HoldsNone deed → HoldsNone end
-    → rate' ≡ rate → m ≡ one_more n → now' ≡ now → IfSome now (λ xs. r ≡ reading_at xs n)
+pub keeps_turn : {len cap len' cap' rate rate' scale b n m first last last' : ℕ} {told now now' : Option (List ℕ)} {old mid new : List Event} {over spare over' : Bool}
+    (deed end : Option Event) (actor r : ℕ) → over ≡ false → Keeps len cap rate scale b n first last told now old over spare → HoldsNone deed → HoldsNone end
+    → rate' ≡ rate → m ≡ one_more n → now' ≡ now → IfSome now (λ xs. r ≡ reading_at xs n) → last' ≡ r
     → mid ≡ old → new ≡ mid ++ Tick actor r ∷ (event_list deed ++ event_list end) → len' < cap'
-    → over' ≡ has_outcome (event_list deed ++ event_list end) → Keeps len' cap' rate' scale b m told now' new over' spare
-keeps_turn {b = b} {n = n} {m = m} {told = told} {now = now} {now' = now'} {old = old} {new = new} {spare = spare} deed end actor r stands k h h' rated more same reading e is room answer =
+    → over' ≡ has_outcome (event_list deed ++ event_list end) → Keeps len' cap' rate' scale b m first last' told now' new over' spare
+keeps_turn {b = b} {n = n} {m = m} {told = told} {now = now} {now' = now'} {old = old} {new = new} {spare = spare} deed end actor r stands k h h' rated more same reading latest e is room answer =
     let z : spare ≡ false = k.exact stands in record {
       room = λ _. room;
       rated = rated ∙ k.rated;
@@ -48,18 +49,20 @@ keeps_turn {b = b} {n = n} {m = m} {told = told} {now = now} {now' = now'} {old 
       clocked = subst (λ s. IsClocked b m told now' new s) (sym z)
           (clocked_turn (subst (λ s. IsClocked b n told now old s) z k.clocked) more same reading (turn_of deed end actor r h h' e is));
       exact = λ _. z;
+      recent = latest_turn z (turn_of deed end actor r h h' e is) latest;
     }
 
-pub keeps_halt : {len cap len' cap' rate rate' scale b n m : ℕ} {told now now' : Option (List ℕ)} {old mid new : List Event} {over spare : Bool}
-    (cause : Cause) → over ≡ false → Keeps len cap rate scale b n told now old over spare
-    → rate' ≡ rate → m ≡ one_more n → now' ≡ now → mid ≡ old → new ≡ mid ++ Halt cause ∷ [] → Keeps len' cap' rate' scale b m told now' new true true
-keeps_halt {b = b} {n = n} {told = told} {now = now} {old = old} {new = new} {spare = spare} cause stands k rated more same e is =
-    let whole : new ≡ old ++ Halt cause ∷ [] = is ∙ ap (λ x. x ++ Halt cause ∷ []) e in record {
+pub keeps_halt : {len cap len' cap' rate rate' scale b n m first last last' : ℕ} {told now now' : Option (List ℕ)} {old mid new : List Event} {over spare : Bool}
+    → over ≡ false → Keeps len cap rate scale b n first last told now old over spare
+    → rate' ≡ rate → m ≡ one_more n → now' ≡ now → mid ≡ old → new ≡ mid ++ Halt Memory ∷ [] → Keeps len' cap' rate' scale b m first last' told now' new true true
+keeps_halt {b = b} {n = n} {told = told} {now = now} {old = old} {new = new} {spare = spare} stands k rated more same e is =
+    let whole : new ≡ old ++ Halt Memory ∷ [] = is ∙ ap (λ x. x ++ Halt Memory ∷ []) e in record {
       room = λ t. absurd (false≢true (sym t));
       rated = rated ∙ k.rated;
-      standing = sym (ap has_outcome whole ∙ list_any-append is_outcome old (Halt cause ∷ []) ∙ ap (λ x. x || true) (sym k.standing ∙ stands));
-      clocked = clocked_halt cause (subst (λ s. IsClocked b n told now old s) (k.exact stands) k.clocked) more same whole;
+      standing = sym (ap has_outcome whole ∙ list_any-append is_outcome old (Halt Memory ∷ []) ∙ ap (λ x. x || true) (sym k.standing ∙ stands));
+      clocked = clocked_halt Memory (subst (λ s. IsClocked b n told now old s) (k.exact stands) k.clocked) more same whole;
       exact = λ t. absurd (false≢true (sym t));
+      recent = latest_halt old whole;
     }
 
 -- the answer of a merge is over exactly where its events have an outcome
@@ -68,3 +71,18 @@ pub answer_over : (actor : ℕ) (sprouts : SproutsView) (deed end : Option Event
 answer_over actor sprouts deed end Done a = sym (λ i. has_outcome (event_list (a.0 i) ++ event_list (a.1 i)))
 answer_over actor sprouts deed end Stale a = sym (λ i. has_outcome (event_list (a.0 i) ++ event_list (a.1 i)))
 answer_over actor sprouts deed end Over a = sym a
+
+pub keeps_stop : {len cap len' cap' rate scale b n first last : ℕ} {told now : Option (List ℕ)} {old new : List Event} {over spare : Bool}
+    (cause : Cause) → over ≡ false → Keeps len cap rate scale b n first last told now old over spare → new ≡ old ++ Halt cause ∷ [] → Keeps len' cap' rate scale b n first last told now new true spare
+keeps_stop {old = old} cause stands k is = record {
+  room = λ t. absurd (false≢true (sym t));
+  rated = k.rated;
+  standing = sym (ap has_outcome is ∙ list_any-append is_outcome old (Halt cause ∷ []) ∙ ap (λ x. x || true) (sym k.standing ∙ stands));
+  clocked = clocked_stop cause k.clocked is;
+  exact = λ t. absurd (false≢true (sym t));
+  recent = latest_stop cause (k.exact stands) k.recent is;
+}
+
+-- no outcome stands
+pub none_stands : {len cap rate scale b n first last : ℕ} {told now : Option (List ℕ)} {old : List Event} {over spare : Bool} → Keeps len cap rate scale b n first last told now old over spare → over ≡ false → has_outcome old ≡ false
+none_stands k stands = sym k.standing ∙ stands

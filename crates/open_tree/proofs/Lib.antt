@@ -6,3 +6,15 @@ pub mod FactBits
 pub mod RowSets
 pub mod WalkSteps
 pub mod Unmet
+pub mod Runs
+pub mod Standing
+pub mod Held
+pub mod LiveMarks
+pub mod Deeds
+pub mod Taking
+pub mod Merging
+pub mod OneMore
+pub mod Children
+pub mod Earliest
+pub mod Facets
+pub mod Joins

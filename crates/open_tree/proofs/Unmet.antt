@@ -29,12 +29,12 @@ fits-effects t f (Add g ∷ es) h = fits-effects t f es (and_parts _ _ h).1
 fits-effects t f (Delete g ∷ es) h = fits-effects t f es (and_parts _ _ h).1
 fits-effects t f (Change how x e ∷ es) h = absurd (false≢true (sym (le-ltb x 0 (omega arith)) ∙ (and_parts _ _ (and_parts _ _ h).0).0))
 
-part-all : {A B : Type 0} (good : A → Bool) (test : B → Bool) (part : A → List B) (xs : List A) (k : ℕ) → ((x : A) → good x ≡ true → list_all test (part x) ≡ true) → list_all good xs ≡ true → list_all test (part_of (slice_get xs k) part) ≡ true
+pub part-all : {A B : Type 0} (good : A → Bool) (test : B → Bool) (part : A → List B) (xs : List A) (k : ℕ) → ((x : A) → good x ≡ true → list_all test (part x) ≡ true) → list_all good xs ≡ true → list_all test (part_of (slice_get xs k) part) ≡ true
 part-all good test part [] k f h = refl
 part-all good test part (x ∷ xs) zero f h = f x (and_parts _ _ h).0
 part-all good test part (x ∷ xs) (suc k) f h = part-all good test part xs k f (and_parts _ _ h).1
 
-effects_in : (f : ℕ) (es : List Effect) → are_effects f 0 es ≡ true → list_all (is_effect f 0) es ≡ true
+pub effects_in : (f : ℕ) (es : List Effect) → are_effects f 0 es ≡ true → list_all (is_effect f 0) es ≡ true
 effects_in f es h = (and_parts _ _ (and_parts _ _ h).0).1
 
 item-fits : (p : Ground) (t : State) (f : ℕ) → p.timed ≡ [] → list_all (is_action f 0) p.actions ≡ true → (i : Item) → list_all (fits_new t) (effects p i) ≡ true
@@ -54,7 +54,7 @@ plain_after p formed plain s is =
     subst (λ xs. list_all (is_action (length p.facts) (length xs)) p.actions ≡ true) fluents (and_parts _ _ formed.acting).1 in
     items-fit p (next s (effects_of p is)) (item-fits p (next s (effects_of p is)) (length p.facts) (nothing p.timed (untimed p plain)) acts) is
 
-or-comm : (a b : Bool) → (a || b) ≡ (b || a)
+pub or-comm : (a b : Bool) → (a || b) ≡ (b || a)
 or-comm true true = refl
 or-comm true false = refl
 or-comm false true = refl
@@ -86,15 +86,20 @@ same_count good s t (x ∷ xs) same all =
 stays : (n most : ℕ) → n ≤ most → most < 2 ^ 31 → min n (2 ^ 32 - 1) ≡ n
 stays n most h k = omega arith
 
+-- the number of goal parts that fail a test, where it says of each literal whether it holds after a word
+pub unmet_by : (p : Ground) (c : Progress) (test : Cond → Bool) (goal : List Cond) → IsWellFormed p → is_plain p ≡ true → goal ≡ p.goal
+    → ((g : Cond) → is_literal g ≡ true → test g ≡ holds (state_past p c) g) → min (count_by (λ g. not (test g)) goal) (2 ^ 32 - 1) ≡ unmet_goals p c
+unmet_by p c test goal formed plain is told =
+    let all : list_all is_literal p.goal ≡ true = (and_parts _ _ plain).1 in
+    let same : count_by (λ g. not (test g)) p.goal ≡ count_by (λ g. not (holds (state_past p c) g)) p.goal =
+    same_count is_literal _ _ p.goal (λ g good. ap not (told g good)) all in
+    let short : length p.goal < 2 ^ 31 = ltb-true (length p.goal) (2 ^ 31) (and_parts _ _ formed.aiming).0 in
+    let most : count_by (λ g. not (test g)) p.goal ≤ length p.goal = count_by-le-length _ p.goal in
+    let small : min (count_by (λ g. not (test g)) p.goal) (2 ^ 32 - 1) ≡ count_by (λ g. not (test g)) p.goal = stays _ (length p.goal) most short in
+    ap (λ xs. min (count_by (λ g. not (test g)) xs) (2 ^ 32 - 1)) is ∙ small ∙ same
+    ∙ ap (λ b. if b then count_by (λ g. not (holds (state_past p c) g)) p.goal else length p.goal) (sym (plain_after p formed plain c.before c.group))
+
 -- the number of goal parts that do not hold
 pub unmet_is : (p : Ground) (w : PlainWalk) (c : Progress) (goal : List Cond) → StandsFor p w c → goal ≡ p.goal
     → min (count_by (λ g. not (holds_after_walk w g)) goal) (2 ^ 32 - 1) ≡ unmet_goals p c
-unmet_is p w c goal h is =
-    let all : list_all is_literal p.goal ≡ true = (and_parts _ _ h.plain).1 in
-    let same : count_by (λ g. not (holds_after_walk w g)) p.goal ≡ count_by (λ g. not (holds (state_past p c) g)) p.goal =
-    same_count is_literal _ _ p.goal (λ g good. ap not (literal_after p w c h g good)) all in
-    let short : length p.goal < 2 ^ 31 = ltb-true (length p.goal) (2 ^ 31) (and_parts _ _ h.formed.aiming).0 in
-    let most : count_by (λ g. not (holds_after_walk w g)) p.goal ≤ length p.goal = count_by-le-length _ p.goal in
-    let small : min (count_by (λ g. not (holds_after_walk w g)) p.goal) (2 ^ 32 - 1) ≡ count_by (λ g. not (holds_after_walk w g)) p.goal = stays _ (length p.goal) most short in
-    ap (λ xs. min (count_by (λ g. not (holds_after_walk w g)) xs) (2 ^ 32 - 1)) is ∙ small ∙ same
-    ∙ ap (λ b. if b then count_by (λ g. not (holds (state_past p c) g)) p.goal else length p.goal) (sym (plain_after p h.formed h.plain c.before c.group))
+unmet_is p w c goal h is = unmet_by p c (holds_after_walk w) goal h.formed h.plain is (literal_after p w c h)

@@ -1,10 +1,11 @@
 -- How a walk goes on: its start, one item more, and a group closed.
-use Rattle.std.proofs.Common.{◌≡◌, refl, sym, ap, subst, ◌∙◌, ℕ, zero, suc, ◌/◌, Bool, true, false, not, ◌&&◌, ◌||◌, eqb, List, [], ◌∷◌, ◌++◌, length, arith, Some, None, is_some, slice_get, take, get_or, add-one, ◌+◌, nat_lt, eqb-true, ◌<◌, inl, inr}
+use Rattle.std.proofs.Common.{◌≡◌, refl, sym, ap, subst, ◌∙◌, ℕ, zero, suc, ◌/◌, Bool, true, false, not, ◌&&◌, ◌||◌, eqb, List, [], ◌∷◌, ◌++◌, length, arith, Some, None, is_some, slice_get, take, get_or, add-one, ◌+◌, nat_lt, nat_le, eqb-true, ◌<◌, inl, inr, Option}
 use Rattle.std.specs.List.{list_any, list_all}
-use Rattle.std.proofs.lemmas.Bool.{false≢true, cases_lt, lt-ltb, ltb-true, and_parts}
-use Rattle.std.proofs.lemmas.List.Folds.{list_any-append}
+use Rattle.std.proofs.lemmas.Bool.{false≢true, cases_lt, lt-ltb, ltb-true, and_parts, le-leb}
+use Rattle.std.proofs.lemmas.List.Folds.{list_any-append, list_all-append}
 use Rattle.std.proofs.Math.Seq.{take-suc}
 use Rattle.std.proofs.lemmas.Grind.{flat_map-append}
+use Rattle.std.proofs.lemmas.Bool.Decides.{nat_tests}
 use Rattle.tp_spec.specs.declared.plan.Item.{Item}
 use Rattle.tp_spec.specs.declared.plan.Item.TheVariants.{TimedAt, End, Start}
 use Rattle.tp_spec.specs.declared.plan.Mark.{Mark}
@@ -16,7 +17,7 @@ use Rattle.tp_spec.specs.declared.problem.Kind.{Kind}
 use Rattle.tp_spec.specs.declared.problem.Kind.TheVariants.{Instant, Durative}
 use Rattle.tp_spec.specs.Lists.{is_empty, part_of, some_and}
 use Rattle.tp_spec.specs.WellFormed.{Ground, IsWellFormed, is_action, is_kind}
-use Rattle.tp_spec.specs.Items.{adds, deletes, conditions, effects, effects_of, is_durative, is_durative_kind, timed_effects}
+use Rattle.tp_spec.specs.Items.{adds, deletes, conditions, effects, effects_of, is_durative, is_durative_kind, timed_effects, item_before}
 use Rattle.tp_spec.specs.Interference.{asks}
 use Rattle.tp_spec.specs.Words.{Progress, at_start, past_group, with_item, read_mark, read_on, progress}
 use Rattle.tp_spec.specs.Plain.{is_plain, is_plain_action}
@@ -25,7 +26,7 @@ use Rattle.open_tree.specs.declared.plain.ActionRows.{ActionRows}
 use Rattle.open_tree.specs.declared.plain.PlainWalk.{PlainWalk}
 use Rattle.open_tree.specs.FactSets.{has_fact, has_place, width, words_for}
 use Rattle.open_tree.specs.PlainTables.{wants, forbids, IsRowOf, AreTables}
-use Rattle.open_tree.specs.Walks.{StandsFor, asked_by}
+use Rattle.open_tree.specs.Walks.{StandsFor, IsLeastBehind, is_reached, asked_by}
 use Rattle.open_tree.proofs.FactBits.{none_past}
 use Rattle.open_tree.proofs.RowSets.{implied, row_whole}
 
@@ -81,8 +82,12 @@ none_lasts [] a h = refl
 none_lasts (x ∷ xs) zero h = ap is_durative_kind (instant x.kind (and_parts _ _ (and_parts _ _ h).0).0)
 none_lasts (x ∷ xs) (suc a) h = none_lasts xs a (and_parts _ _ h).1
 
-plain_actions : (p : Ground) → is_plain p ≡ true → list_all is_plain_action p.actions ≡ true
+pub plain_actions : (p : Ground) → is_plain p ≡ true → list_all is_plain_action p.actions ≡ true
 plain_actions p h = (and_parts _ _ (and_parts _ _ h).0).1
+
+-- no action of a plain problem lasts
+pub never_lasts : (p : Ground) → is_plain p ≡ true → (a : ℕ) → is_durative p a ≡ false
+never_lasts p h a = none_lasts p.actions a (plain_actions p h)
 
 pub untimed : (p : Ground) → is_plain p ≡ true → is_empty p.timed ≡ true
 untimed p h = (and_parts _ _ (and_parts _ _ (and_parts _ _ h).0).0).1
@@ -91,16 +96,53 @@ pub nothing : {A : Type 0} (xs : List A) → is_empty xs ≡ true → xs ≡ []
 nothing [] h = refl
 nothing (x ∷ xs) h = absurd (false≢true h)
 
+pub still_idle : (p : Ground) (c : Progress) → is_plain p ≡ true → ((a : ℕ) → c.running a ≡ false) → (a : ℕ) → (past_group p c).running a ≡ false
+still_idle p c plain idle a = not_running _ (is_durative p a) (c.running a) _ (never_lasts p plain a) (idle a)
+
+-- no item is in the empty group
+pub none_behind : (from : Option ℕ) → from ≡ None → IsLeastBehind from []
+none_behind from e = record { begun = ap is_some e; behind = λ a. ap (λ o. is_reached o a) e }
+
+some_item : (xs : List Item) (x : Item) → true ≡ not (is_empty (xs ++ x ∷ []))
+some_item [] x = refl
+some_item (y ∷ ys) x = refl
+
+and-true : (a b : Bool) → (a && b) ≡ (a && (b && true))
+and-true true true = refl
+and-true true false = refl
+and-true false b = refl
+
+-- one item more, behind which starts come from number k on
+pub one_behind : (old : Option ℕ) (from k : ℕ) (group : List Item) (i : Item) → IsLeastBehind old group
+    → ((a : ℕ) → nat_le from a ≡ (is_reached old a && nat_le k a)) → ((a : ℕ) → nat_le k a ≡ item_before i (Start a))
+    → IsLeastBehind (Some from) (group ++ i ∷ [])
+one_behind old from k group i h greater next = record {
+  begun = some_item group i;
+  behind = λ a.
+      greater a
+      ∙ ap (λ b. b && nat_le k a) (h.behind a)
+      ∙ ap (λ b. list_all (λ j. item_before j (Start a)) group && b) (next a)
+      ∙ and-true (list_all (λ j. item_before j (Start a)) group) (item_before i (Start a))
+      ∙ sym (list_all-append (λ j. item_before j (Start a)) group (i ∷ []));
+}
+
+-- starts come behind a start from the next number on, and behind other items all
+pub from_next : (k a : ℕ) → nat_le (k + 1) a ≡ item_before (Start k) (Start a)
+from_next k a = grind (arith, nat_tests)
+
+pub from_none : (a : ℕ) → nat_le 0 a ≡ true
+from_none a = le-leb 0 a (omega arith)
+
 -- a group closed
 pub closed : (p : Ground) (c : Progress) (old : PlainWalk) (mid : FactRow) (new : PlainWalk) → StandsFor p old c
-    → new.actions ≡ old.actions
+    → new.actions ≡ old.actions → new.joins_from ≡ None
     → width mid ≡ width old.before → ((f : ℕ) → has_fact mid f ≡ (has_fact old.before f && not (has_fact old.deletes f)))
     → width new.before ≡ width mid → ((f : ℕ) → has_fact new.before f ≡ (has_fact mid f || (has_place (width mid) f && has_fact old.adds f)))
     → width new.asked ≡ width old.asked → ((f : ℕ) → has_fact new.asked f ≡ false)
     → width new.adds ≡ width old.adds → ((f : ℕ) → has_fact new.adds f ≡ false)
     → width new.deletes ≡ width old.deletes → ((f : ℕ) → has_fact new.deletes f ≡ false)
     → StandsFor p new (past_group p c)
-closed p c old mid new h same w0 h0 w1 h1 w2 h2 w3 h3 w4 h4 = record {
+closed p c old mid new h same none w0 h0 w1 h1 w2 h2 w3 h3 w4 h4 = record {
   formed = h.formed;
   plain = h.plain;
   tables = subst (λ a. AreTables p a.now) (sym same) h.tables;
@@ -108,7 +150,8 @@ closed p c old mid new h same w0 h0 w1 h1 w2 h2 w3 h3 w4 h4 = record {
   asked = record { wide = w2 ∙ h.asked.wide; has = h2 };
   adds = record { wide = w3 ∙ h.adds.wide; has = h3 };
   deletes = record { wide = w4 ∙ h.deletes.wide; has = h4 };
-  idle = λ a. not_running _ (is_durative p a) (c.running a) _ (none_lasts p.actions a (plain_actions p h.plain)) (h.idle a);
+  idle = still_idle p c h.plain h.idle;
+  joins = none_behind new.joins_from none;
 }
 
 either_way : (f : ℕ) (x : Cond) → asks f x ≡ (wants f x || forbids f x)
@@ -125,7 +168,7 @@ swapped true b c d = refl
 swapped false true c d = or_true c
 swapped false false c d = refl
 
-asks_split : (f : ℕ) (xs : List Cond) → list_any (asks f) xs ≡ (list_any (wants f) xs || list_any (forbids f) xs)
+pub asks_split : (f : ℕ) (xs : List Cond) → list_any (asks f) xs ≡ (list_any (wants f) xs || list_any (forbids f) xs)
 asks_split f [] = refl
 asks_split f (x ∷ xs) =
     ap (λ b. b || list_any (asks f) xs) (either_way f x)
@@ -136,7 +179,7 @@ asked_more : (p : Ground) (group : List Item) (i : Item) (f : ℕ) → asked_by 
 asked_more p group i f =
     list_any-append (λ j. list_any (asks f) (conditions p j)) group (i ∷ []) ∙ ap (λ b. asked_by p group f || b) (sym (or-false (list_any (asks f) (conditions p i))))
 
-does_more : (p : Ground) (group : List Item) (i : Item) (test : Effect → Bool)
+pub does_more : (p : Ground) (group : List Item) (i : Item) (test : Effect → Bool)
     → list_any test (effects_of p (group ++ i ∷ [])) ≡ (list_any test (effects_of p group) || list_any test (effects p i))
 does_more p group i test =
     ap (list_any test) (flat_map-append (effects p) group (i ∷ []))
@@ -146,13 +189,13 @@ does_more p group i test =
 -- the start of an action of the problem put in
 pub included : (p : Ground) (c : Progress) (old : PlainWalk) (mid : FactRow) (new : PlainWalk) (a : ℕ) (rows : ActionRows) → StandsFor p old c
     → new.actions ≡ old.actions → slice_get old.actions.now.rows.items a ≡ Some rows
-    → new.before ≡ old.before
+    → new.before ≡ old.before → IsLeastBehind new.joins_from (c.group ++ Start a ∷ [])
     → width mid ≡ width old.asked → ((f : ℕ) → has_fact mid f ≡ (has_fact old.asked f || (has_place (width old.asked) f && has_fact rows.wanted f)))
     → width new.asked ≡ width mid → ((f : ℕ) → has_fact new.asked f ≡ (has_fact mid f || (has_place (width mid) f && has_fact rows.unwanted f)))
     → width new.adds ≡ width old.adds → ((f : ℕ) → has_fact new.adds f ≡ (has_fact old.adds f || (has_place (width old.adds) f && has_fact rows.adds f)))
     → width new.deletes ≡ width old.deletes → ((f : ℕ) → has_fact new.deletes f ≡ (has_fact old.deletes f || (has_place (width old.deletes) f && has_fact rows.deletes f)))
     → StandsFor p new (with_item c (Start a))
-included p c old mid new a rows h same got still w0 h0 w1 h1 w2 h2 w3 h3 =
+included p c old mid new a rows h same got still joins w0 h0 w1 h1 w2 h2 w3 h3 =
     let r = h.tables.each a rows got in
     let words : ℕ = words_for (length p.facts) in
     record {
@@ -168,11 +211,13 @@ included p c old mid new a rows h same got still w0 h0 w1 h1 w2 h2 w3 h3 =
       deletes = row_same new.deletes words _ _ (λ f. sym (does_more p c.group (Start a) (deletes f)))
           (row_joined old.deletes rows.deletes new.deletes words _ _ h.deletes r.deletes w3 h3);
       idle = h.idle;
+      joins = joins;
     }
 
 -- an item put in that asks and does nothing
-pub ignored : (p : Ground) (c : Progress) (w : PlainWalk) (i : Item) → StandsFor p w c → conditions p i ≡ [] → effects p i ≡ [] → StandsFor p w (with_item c i)
-ignored p c w i h asks-none does-none = record {
+pub ignored : (p : Ground) (c : Progress) (w : PlainWalk) (from : Option ℕ) (i : Item) → StandsFor p w c → IsLeastBehind from (c.group ++ i ∷ [])
+    → conditions p i ≡ [] → effects p i ≡ [] → StandsFor p (record w { joins_from = from }) (with_item c i)
+ignored p c w from i h joins asks-none does-none = record {
   formed = h.formed;
   plain = h.plain;
   tables = h.tables;
@@ -186,6 +231,7 @@ ignored p c w i h asks-none does-none = record {
       (λ f. or-false (list_any (deletes f) (effects_of p c.group)) ∙ ap (λ xs. list_any (deletes f) (effects_of p c.group) || list_any (deletes f) xs) (sym does-none)
       ∙ sym (does_more p c.group i (deletes f))) h.deletes;
   idle = h.idle;
+  joins = joins;
 }
 
 no_part : {A B : Type 0} (good fine : A → Bool) (part : A → List B) (xs : List A) (a : ℕ) → ((x : A) → good x ≡ true → fine x ≡ true → part x ≡ [])
@@ -199,7 +245,7 @@ kind_of n m x good fine =
     subst (λ k. is_kind k x ≡ true) (instant x.kind (and_parts _ _ good).0)
     (and_parts _ _ (and_parts _ _ (and_parts _ _ (and_parts _ _ (and_parts _ _ (and_parts _ _ fine).0).0).0).0).0).1
 
-no_action : {A B : Type 0} (xs : List A) (ys : List B) (a : ℕ) → length xs ≡ length ys → slice_get xs a ≡ None → slice_get ys a ≡ None
+pub no_action : {A B : Type 0} (xs : List A) (ys : List B) (a : ℕ) → length xs ≡ length ys → slice_get xs a ≡ None → slice_get ys a ≡ None
 no_action xs [] a same none = refl
 no_action [] (y ∷ ys) a same none = absurd (omega (arith, same))
 no_action (x ∷ xs) (y ∷ ys) zero same none = absurd (false≢true (sym (ap is_some none)))
@@ -209,37 +255,39 @@ init_below : (facts g f : ℕ) → nat_lt g facts ≡ true → eqb f g ≡ true 
 init_below facts g f good same = omega (arith, ltb-true g facts good, eqb-true f g same)
 
 -- a timed item or an end put in, which ask and do nothing
-pub no_timed : (p : Ground) (c : Progress) (w : PlainWalk) (k : ℕ) → StandsFor p w c → StandsFor p w (with_item c (TimedAt k))
-no_timed p c w k h =
-    ignored p c w (TimedAt k) h refl (ap (λ xs. part_of (slice_get xs k) timed_effects) (nothing p.timed (untimed p h.plain)))
+pub no_timed : (p : Ground) (c : Progress) (w : PlainWalk) (from k : ℕ) → StandsFor p w c → ((a : ℕ) → nat_le from a ≡ (is_reached w.joins_from a && nat_le 0 a))
+    → StandsFor p (record w { joins_from = Some from }) (with_item c (TimedAt k))
+no_timed p c w from k h greater =
+    ignored p c w (Some from) (TimedAt k) h (one_behind w.joins_from from 0 c.group (TimedAt k) h.joins greater from_none) refl (ap (λ xs. part_of (slice_get xs k) timed_effects) (nothing p.timed (untimed p h.plain)))
 
-pub no_end : (p : Ground) (c : Progress) (w : PlainWalk) (a : ℕ) → StandsFor p w c → StandsFor p w (with_item c (End a))
-no_end p c w a h =
+pub no_end : (p : Ground) (c : Progress) (w : PlainWalk) (from a : ℕ) → StandsFor p w c → ((b : ℕ) → nat_le from b ≡ (is_reached w.joins_from b && nat_le 0 b))
+    → StandsFor p (record w { joins_from = Some from }) (with_item c (End a))
+no_end p c w from a h greater =
     let acts = plain_actions p h.plain in
     let fine = (and_parts _ _ h.formed.acting).1 in
     let n : ℕ = length p.facts in
     let m : ℕ = length p.fluents in
-    ignored p c w (End a) h
+    ignored p c w (Some from) (End a) h (one_behind w.joins_from from 0 c.group (End a) h.joins greater from_none)
     (no_part is_plain_action (is_action n m) (λ x. x.end_conds) p.actions a
     (λ x good ok. nothing x.end_conds (and_parts _ _ (and_parts _ _ (kind_of n m x good ok)).0).1) acts fine)
     (no_part is_plain_action (is_action n m) (λ x. x.end_effects) p.actions a
     (λ x good ok. nothing x.end_effects (and_parts _ _ (kind_of n m x good ok)).1) acts fine)
 
 -- the start of no action of the problem put in
-pub no_start : (p : Ground) (c : Progress) (w : PlainWalk) (a : ℕ) → StandsFor p w c → slice_get w.actions.now.rows.items a ≡ None
-    → StandsFor p w (with_item c (Start a))
-no_start p c w a h none =
+pub no_start : (p : Ground) (c : Progress) (w : PlainWalk) (from a : ℕ) → StandsFor p w c → ((b : ℕ) → nat_le from b ≡ (is_reached w.joins_from b && nat_le (a + 1) b))
+    → slice_get w.actions.now.rows.items a ≡ None → StandsFor p (record w { joins_from = Some from }) (with_item c (Start a))
+no_start p c w from a h greater none =
     let past : slice_get p.actions a ≡ None = no_action w.actions.now.rows.items p.actions a h.tables.count none in
-    ignored p c w (Start a) h (ap (λ o. part_of o (λ x. x.start_conds)) past) (ap (λ o. part_of o (λ x. x.start_effects)) past)
+    ignored p c w (Some from) (Start a) h (one_behind w.joins_from from (a + 1) c.group (Start a) h.joins greater (from_next a)) (ap (λ o. part_of o (λ x. x.start_conds)) past) (ap (λ o. part_of o (λ x. x.start_effects)) past)
 
 -- the empty word
-pub started : (p : Ground) (w : PlainWalk) → IsWellFormed p → is_plain p ≡ true → AreTables p w.actions.now
+pub started : (p : Ground) (w : PlainWalk) → IsWellFormed p → is_plain p ≡ true → AreTables p w.actions.now → w.joins_from ≡ None
     → IsRowOf w.before (words_for (length p.facts)) (λ f. has_place (words_for (length p.facts)) f && list_any (λ g. eqb f g) p.init)
     → IsRowOf w.asked (words_for (length p.facts)) (λ f. false)
     → IsRowOf w.adds (words_for (length p.facts)) (λ f. false)
     → IsRowOf w.deletes (words_for (length p.facts)) (λ f. false)
     → StandsFor p w (at_start p)
-started p w formed plain tables before asked adding deleting = record {
+started p w formed plain tables none before asked adding deleting = record {
   formed = formed;
   plain = plain;
   tables = tables;
@@ -248,6 +296,7 @@ started p w formed plain tables before asked adding deleting = record {
   adds = adding;
   deletes = deleting;
   idle = λ a. refl;
+  joins = none_behind w.joins_from none;
 }
 
 -- one mark more
@@ -255,9 +304,11 @@ pub read-last : (p : Ground) (c : Progress) (w : List Mark) (m : Mark) → read_
 read-last p c [] m = refl
 read-last p c (x ∷ w) m = read-last p (read_mark p c x) w m
 
+pub one_taken : {A : Type 0} (xs : List A) (i : ℕ) (x : A) → i < length xs → x ≡ get_or xs i x → take (i + 1) xs ≡ take i xs ++ x ∷ []
+one_taken xs i x below is = ap (λ k. take k xs) (add-one i) ∙ take-suc xs i x below ∙ ap (λ y. take i xs ++ y ∷ []) (sym is)
+
 pub read_more : (p : Ground) (w : PlainWalk) (word : List Mark) (i : ℕ) (m : Mark) → i < length word → m ≡ get_or word i m
     → StandsFor p w (read_mark p (progress p (take i word)) m) → StandsFor p w (progress p (take (i + 1) word))
 read_more p w word i m below is h =
-    let longer : take (i + 1) word ≡ take i word ++ m ∷ [] =
-    ap (λ k. take k word) (add-one i) ∙ take-suc word i m below ∙ ap (λ y. take i word ++ y ∷ []) (sym is) in
+    let longer : take (i + 1) word ≡ take i word ++ m ∷ [] = one_taken word i m below is in
     subst (λ u. StandsFor p w (progress p u)) (sym longer) (subst (λ c. StandsFor p w c) (sym (read-last p (at_start p) (take i word) m)) h)

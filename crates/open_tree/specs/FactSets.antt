@@ -28,6 +28,10 @@ pub record InBoth (a b : List ℕ) : Type 0 where
   pub in_first : has_bit a fact ≡ true
   pub in_second : has_bit b fact ≡ true
 
+-- a fact that is in both sets
+abbrev pub Share : FactRow → FactRow → Type 0
+Share a b = InBoth a.words.items b.words.items
+
 -- each fact of the first row is in the second
 abbrev pub IsWithin : List ℕ → List ℕ → Type 0
 IsWithin a b = (f : ℕ) → has_bit a f ≡ true → has_bit b f ≡ true

@@ -9,3 +9,9 @@ pub mod Answers
 pub mod FactSets
 pub mod PlainTables
 pub mod Walks
+pub mod JobViews
+pub mod Jobs
+pub mod Stands
+pub mod Children
+pub mod Steps
+pub mod OneMore

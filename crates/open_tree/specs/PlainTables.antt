@@ -1,5 +1,5 @@
 -- What the tables of a plain problem's actions stand for.
-use Rattle.std.specs.Prelude.{◌≡◌, ℕ, Bool, true, false, ◌&&◌, ◌||◌, ◌==◌, List, length, Some, slice_get}
+use Rattle.std.specs.Prelude.{◌≡◌, ◌⊎◌, ℕ, Bool, true, false, ◌&&◌, ◌||◌, ◌==◌, List, length, Some, slice_get}
 use Rattle.std.specs.List.{list_any}
 use Rattle.tp_spec.specs.declared.plan.Item.TheVariants.{Start}
 use Rattle.tp_spec.specs.declared.problem.Cond.{Cond}
@@ -10,7 +10,7 @@ use Rattle.tp_spec.specs.Items.{adds, deletes, conditions, effects}
 use Rattle.open_tree.specs.declared.rows.FactRow.{FactRow}
 use Rattle.open_tree.specs.declared.plain.ActionRows.{ActionRows}
 use Rattle.open_tree.specs.declared.plain.PlainActions.{PlainActions}
-use Rattle.open_tree.specs.FactSets.{has_fact, has_place, width, words_for}
+use Rattle.open_tree.specs.FactSets.{Share, has_fact, has_place, width, words_for}
 
 -- whether a condition wants fact f to hold
 abbrev pub wants : ℕ → Cond → Bool
@@ -47,6 +47,14 @@ pub record AreActionRows (p : Problem) (a : ℕ) (rows : ActionRows) : Type 0 wh
   pub unwanted : IsRowOf rows.unwanted (words_for (length p.facts)) (λ f. list_any (forbids f) (conditions p (Start a)))
   pub adds : IsRowOf rows.adds (words_for (length p.facts)) (λ f. list_any (adds f) (effects p (Start a)))
   pub deletes : IsRowOf rows.deletes (words_for (length p.facts)) (λ f. list_any (deletes f) (effects p (Start a)))
+
+-- the rows have an added or a deleted fact in this set
+abbrev pub Changes : ActionRows → FactRow → Type 0
+Changes rows facts = Share rows.adds facts ⊎ Share rows.deletes facts
+
+-- the rows have a fact in this set that is wanted, or not wanted
+abbrev pub Asks : ActionRows → FactRow → Type 0
+Asks rows facts = Share rows.wanted facts ⊎ Share rows.unwanted facts
 
 -- the rows of each action of a problem, by its index
 pub record AreTables (p : Problem) (tables : PlainActions) : Type 0 where

@@ -1,4 +1,5 @@
 ghost use Rattle.std.specs.Prelude.{◌≡◌};
+ghost use Rattle.open_tree.specs.Jobs.{AreSprouts};
 
 use crate::node::Node;
 use std::marker::Model;
@@ -106,6 +107,7 @@ pub struct Sprouts<'p> {
 
 impl<'p> Model for Sprouts<'p> {
     ghost use Rattle.open_tree.specs.Views.{SproutsView};
+    ghost use Rattle.open_tree.specs.Jobs.{AreSprouts};
     ghost use Rattle.tp_spec.specs.contracts.expr.Expr as expr;
     ghost use Rattle.std.specs.Coded.{codes};
 
@@ -114,11 +116,14 @@ impl<'p> Model for Sprouts<'p> {
     ghost coded = { Prim.hlevel (codes, expr.the_row.coded) };
 
     ghost view = { λ s. record { job = s.job; marks = s.marks } };
+
+    ghost invariant = { λ s. AreSprouts (record { job = s.job; marks = s.marks }) };
 }
 
 impl<'p> Sprouts<'p> {
-    /// The sprouts of a job. It takes no memory.
+    /// The sprouts of a job: exactly the marks that make its word a live word, in order. It takes no memory.
     pub fn new(job: Job<'p>, marks: List<Mark>) -> Sprouts<'p>
+        requires { AreSprouts (record { job = job; marks = marks }) }
         ensures job { result.job ≡ job.entry }
         ensures marks { result.marks ≡ marks }
     {

@@ -1,13 +1,19 @@
-ghost use Rattle.std.specs.Prelude.{◌≡◌, ◌==◌, length, slice_get, true, not, count_by, IfOk};
+ghost use Rattle.std.specs.Prelude.{◌≡◌, ◌==◌, ◌<◌, ◌&&◌, ◌++◌, ◌∷◌, [], ℕ, nat_le, length, slice_get, true, false, not, count_by, is_some, IfOk, OnOk, IsTrue, ◌↔◌};
+ghost use Rattle.std.specs.List.{filter, list_any, range_with_len};
+ghost use Rattle.tp_spec.specs.declared.plan.Item.TheVariants.{Start};
+ghost use Rattle.tp_spec.specs.Interference.{interfere};
+ghost use Rattle.tp_spec.specs.States.{State};
+ghost use Rattle.tp_spec.specs.WellFormed.{IsWellFormed};
 ghost use Rattle.std.specs.Option.{option_copied};
-ghost use Rattle.tp_spec.specs.Items.{adds, deletes};
+ghost use Rattle.tp_spec.specs.Items.{adds, deletes, own};
 ghost use Rattle.open_tree.specs.FactSets.{words_for, InBoth, IsWithin};
-ghost use Rattle.open_tree.specs.PlainTables.{wants, forbids, Takes, AreRowsOf, AreTables};
+ghost use Rattle.open_tree.specs.PlainTables.{wants, Changes, Asks, forbids, Takes, IsRowOf, AreRowsOf, AreActionRows, AreTables};
 ghost use Rattle.tp_spec.specs.declared.problem.Problem.{Problem as Ground};
-ghost use Rattle.tp_spec.specs.Words.{Progress, progress, at_start as first_progress, past_group, with_item, read_mark};
+ghost use Rattle.tp_spec.specs.Words.{Progress, progress, at_start as first_progress, past_group, with_item, read_mark, may_follow};
 ghost use Rattle.tp_spec.specs.Plain.{is_plain};
 ghost use Rattle.tp_spec.specs.Machine.{unmet_goals};
-ghost use Rattle.open_tree.specs.Walks.{StandsFor, is_fact_after, holds_after_walk};
+ghost use Rattle.open_tree.specs.Walks.{StandsFor, Clashes, is_reached, is_fact_after, holds_after_walk};
+ghost use Rattle.open_tree.specs.OneMore.{started_rows, is_fact_with, holds_with_rows};
 
 use crate::rows::FactRow;
 use std::alloc::Global;
@@ -75,8 +81,24 @@ impl ActionRows {
     }
 
     /// Whether its conditions hold where exactly these facts are true.
-    fn holds_in(&self, facts: &FactRow) -> bool {
+    fn holds_in(&self, facts: &FactRow) -> bool
+        ensures { (p : Ground) (s : State) (a : ℕ) → IsWellFormed p → is_plain p ≡ true → AreActionRows p a self.now → IsRowOf facts.now (words_for (length p.facts)) s.fact → result ≡ own p s (Start a) }
+    {
         self.wanted.is_within(facts) && !self.unwanted.meets(facts)
+    }
+
+    /// Whether it adds or deletes one of these facts.
+    fn changes(&self, facts: &FactRow) -> bool
+        ensures { IsTrue result ↔ Changes self.now facts.now }
+    {
+        self.adds.meets(facts) || self.deletes.meets(facts)
+    }
+
+    /// Whether it asks one of these facts, be it to hold or not to hold.
+    fn asks(&self, facts: &FactRow) -> bool
+        ensures { IsTrue result ↔ Asks self.now facts.now }
+    {
+        self.wanted.meets(facts) || self.unwanted.meets(facts)
     }
 }
 
@@ -127,7 +149,8 @@ impl PlainActions {
     }
 }
 
-/// A word of a plain problem that was read so far: the facts before its last group, and what that group asks and does.
+/// A word of a plain problem that was read so far: the facts before its last group, what that group asks and does, and
+/// the least number of an action whose start comes behind the group in item order, or none where the group is empty.
 #[derive(Drop)]
 pub struct PlainWalk<'a> {
     actions: &'a PlainActions,
@@ -135,7 +158,7 @@ pub struct PlainWalk<'a> {
     asked: FactRow,
     adds: FactRow,
     deletes: FactRow,
-    last: Option<u32>,
+    joins_from: Option<u64>,
 }
 
 impl<'a> PlainWalk<'a> {
@@ -154,7 +177,7 @@ impl<'a> PlainWalk<'a> {
             asked: FactRow::empty(alloc, facts)?,
             adds: FactRow::empty(alloc, facts)?,
             deletes: FactRow::empty(alloc, facts)?,
-            last: None,
+            joins_from: None,
         })
     }
 
@@ -190,8 +213,8 @@ impl<'a> PlainWalk<'a> {
     {
         match item {
             Item::Start(action) => self.start(action),
-            Item::TimedAt(_) => {}
-            Item::End(_) => {}
+            Item::TimedAt(_) => self.joins_from = Some(at_least(self.joins_from, 0)),
+            Item::End(_) => self.joins_from = Some(at_least(self.joins_from, 0)),
         }
     }
 
@@ -200,6 +223,7 @@ impl<'a> PlainWalk<'a> {
         ensures { (p : Ground) (c : Progress) → StandsFor p self.old c → StandsFor p self.new (with_item c (Item.Start action)) }
     {
         let actions = self.actions;
+        self.joins_from = Some(at_least(self.joins_from, action as u64 + 1));
         let Some(rows) = actions.rows_of(action) else {
             return;
         };
@@ -207,7 +231,6 @@ impl<'a> PlainWalk<'a> {
         self.asked.add_all(&rows.unwanted);
         self.adds.add_all(&rows.adds);
         self.deletes.add_all(&rows.deletes);
-        self.last = Some(action);
     }
 
     /// Closes the last group.
@@ -219,36 +242,55 @@ impl<'a> PlainWalk<'a> {
         self.asked.clear();
         self.adds.clear();
         self.deletes.clear();
-        self.last = None;
+        self.joins_from = None;
     }
 
     /// The actions whose start may join the last group, rising.
-    pub fn joining(&self, alloc: Global) -> Result<Vec<u32>, NoMemory> {
+    pub fn joining(&self, alloc: Global) -> Result<Vec<u32>, NoMemory>
+        ensures { (p : Ground) (c : Progress) → StandsFor p self.now c → IfOk result (λ v. v.items ≡ filter (λ a. may_follow p c (record { fresh = false; item = Start a })) (range_with_len 0 (length p.actions))) }
+    {
         let mut found = Vec::new(alloc);
-        if let Some(last) = self.last {
-            for (number, rows) in self.actions.rows.iter().enumerate() {
-                if number > last as usize && self.may_join(rows) {
-                    push_number(&mut found, number)?;
-                }
+        for (number, rows) in self.actions.rows.iter().enumerate() {
+            if self.may_join(number, rows) {
+                push_number(&mut found, number)?;
             }
         }
         Ok(found)
     }
 
-    fn may_join(&self, rows: &ActionRows) -> bool {
-        rows.holds_in(&self.before)
-            && !rows.adds.meets(&self.asked)
-            && !rows.deletes.meets(&self.asked)
-            && !rows.wanted.meets(&self.adds)
-            && !rows.wanted.meets(&self.deletes)
-            && !rows.unwanted.meets(&self.adds)
-            && !rows.unwanted.meets(&self.deletes)
-            && !rows.adds.meets(&self.deletes)
-            && !rows.deletes.meets(&self.adds)
+    /// Whether the start of an action, of which these are the rows, may join the last group.
+    fn may_join(&self, number: usize, rows: &ActionRows) -> bool
+        ensures { (p : Ground) (c : Progress) → StandsFor p self.now c → AreActionRows p number rows.now → number < length p.actions → result ≡ may_follow p c (record { fresh = false; item = Start number }) }
+    {
+        self.is_behind(number) && rows.holds_in(&self.before) && !self.clashes(rows)
+    }
+
+    /// Whether there is a last group, and the start of this action comes behind all its items.
+    fn is_behind(&self, number: usize) -> bool
+        ensures { result ≡ (is_some self.now.joins_from && is_reached self.now.joins_from number) }
+    {
+        match self.joins_from {
+            Some(from) => from <= number as u64,
+            None => false,
+        }
+    }
+
+    /// Whether an action with these rows touches a fact that the last group touches in another way.
+    fn clashes(&self, rows: &ActionRows) -> bool
+        ensures { IsTrue result ↔ Clashes self.now rows.now }
+    {
+        rows.changes(&self.asked)
+            || rows.asks(&self.adds)
+            || rows.asks(&self.deletes)
+            || rows.adds.meets(&self.deletes)
+            || rows.deletes.meets(&self.adds)
     }
 
     /// The actions whose start may open the next group, rising. The last group is closed.
-    pub fn opening(&mut self, alloc: Global) -> Result<Vec<u32>, NoMemory> {
+    pub fn opening(&mut self, alloc: Global) -> Result<Vec<u32>, NoMemory>
+        ensures closed { (p : Ground) (c : Progress) → StandsFor p self.old c → StandsFor p self.new (past_group p c) }
+        ensures opening { (p : Ground) (c : Progress) → StandsFor p self.old c → IfOk result (λ v. v.items ≡ filter (λ a. may_follow p c (record { fresh = true; item = Start a })) (range_with_len 0 (length p.actions))) }
+    {
         self.close();
         let mut found = Vec::new(alloc);
         for (number, rows) in self.actions.rows.iter().enumerate() {
@@ -287,38 +329,67 @@ impl<'a> PlainWalk<'a> {
         self.adds.has(fact) || (self.before.has(fact) && !self.deletes.has(fact))
     }
 
-    /// How many goal parts do not hold after the word and one mark more.
-    pub fn unmet_with(&self, mark: Mark, goal: &[Cond]) -> u32 {
-        let mut unmet = 0u32;
-        for cond in goal {
-            if !self.holds_with(mark, cond) {
-                unmet = unmet.saturating_add(1);
-            }
-        }
-        unmet
+    /// How many goal parts do not hold after the word and one mark more that may follow it.
+    pub fn unmet_with(&self, mark: Mark, goal: &[Cond]) -> u32
+        ensures { (p : Ground) (c : Progress) → StandsFor p self.now c → goal.now ≡ p.goal → IsTrue (may_follow p c mark) → result ≡ unmet_goals p (read_mark p c mark) }
+    {
+        let Some(rows) = self.started(mark.item) else {
+            return self.unmet(goal);
+        };
+        self.count_unmet_with(rows, goal).min(u32::MAX as usize) as u32
     }
 
-    fn holds_with(&self, mark: Mark, cond: &Cond) -> bool {
+    /// The rows of the action that an item starts.
+    fn started(&self, item: Item) -> Option<&ActionRows>
+        ensures { option_copied result ≡ started_rows self.now item }
+    {
+        match item {
+            Item::Start(action) => self.actions.rows_of(action),
+            Item::TimedAt(_) => None,
+            Item::End(_) => None,
+        }
+    }
+
+    fn count_unmet_with(&self, rows: &ActionRows, goal: &[Cond]) -> usize
+        ensures { result ≡ count_by (λ g. not (holds_with_rows self.now rows.now g)) goal.now }
+    {
+        goal.iter()
+            .filter(|cond| !self.holds_with(rows, cond))
+            .count()
+    }
+
+    fn holds_with(&self, rows: &ActionRows, cond: &Cond) -> bool
+        ensures { result ≡ holds_with_rows self.now rows.now cond.now }
+    {
         match cond {
-            Cond::Lit { fact, positive } => self.is_true_with(mark, *fact) == *positive,
+            Cond::Lit { fact, positive } => self.is_true_with(rows, *fact) == *positive,
             Cond::Compare { .. } => false,
         }
     }
 
-    /// What is added or deleted with the mark goes before what the last group does; a mark that joins it adds and
-    /// deletes other facts than the group.
-    fn is_true_with(&self, mark: Mark, fact: u32) -> bool {
-        let Item::Start(action) = mark.item else {
-            return self.is_true_after(fact);
-        };
-        let Some(rows) = self.actions.rows_of(action) else {
-            return self.is_true_after(fact);
-        };
+    /// What an action adds and deletes goes before what the last group does: an action that joins the group deletes
+    /// nothing that the group adds.
+    fn is_true_with(&self, rows: &ActionRows, fact: u32) -> bool
+        ensures { result ≡ is_fact_with self.now rows.now fact }
+    {
         rows.adds.has(fact) || (self.is_true_after(fact) && !rows.deletes.has(fact))
     }
 }
 
-fn push_number(found: &mut Vec<u32>, number: usize) -> Result<(), NoMemory> {
+/// The greater of a number and what there was before, if anything.
+fn at_least(old: Option<u64>, from: u64) -> u64
+    ensures { (a : ℕ) → nat_le result a ≡ (is_reached old a && nat_le from a) }
+{
+    match old {
+        Some(old) => old.max(from),
+        None => from,
+    }
+}
+
+/// Puts a number behind the others. One of more than 32 bits is refused as if for want of memory.
+fn push_number(found: &mut Vec<u32>, number: usize) -> Result<(), NoMemory>
+    ensures { OnOk result (found.new.items ≡ found.old.items ++ number ∷ []) }
+{
     let Ok(number) = u32::try_from(number) else {
         return Err(NoMemory);
     };

@@ -1,4 +1,12 @@
-ghost use Rattle.std.specs.Prelude.{◌≡◌, ◌++◌, ◌∷◌, [], length, IfOk, vec_len};
+ghost use Rattle.std.specs.Prelude.{◌≡◌, ◌++◌, ◌∷◌, [], true, length, map, IfOk, IsTrue, vec_len};
+ghost use Rattle.std.specs.List.{list_all};
+ghost use Rattle.tp_spec.specs.Words.{may_follow, progress};
+ghost use Rattle.tp_spec.specs.Plain.{is_plain};
+ghost use Rattle.open_tree.specs.PlainTables.{AreTables};
+ghost use Rattle.open_tree.specs.Children.{child_node};
+ghost use Rattle.tp_spec.specs.declared.problem.Problem.{Problem as Ground};
+ghost use Rattle.tp_spec.specs.Schedules.{plan_of};
+ghost use Rattle.tp_laws.specs.Early.{consecutive};
 
 use crate::node::Node;
 use crate::plain::{PlainActions, PlainWalk};
@@ -6,7 +14,9 @@ use std::alloc::Global;
 use tp_spec::{Item, List, Mark, NoMemory, Plan, Problem, Timed};
 
 /// The plan of a word of instant actions in which each group stands as early as it can: the k-th group at tick k.
-pub fn earliest_plan(alloc: Global, word: &[Mark]) -> Result<Plan, NoMemory> {
+pub fn earliest_plan(alloc: Global, word: &[Mark]) -> Result<Plan, NoMemory>
+    ensures { (p : Ground) → is_plain p ≡ true → IfOk result (λ plan. plan ≡ plan_of p word.now consecutive) }
+{
     let mut acts = List::new(alloc);
     let mut groups = 0u64;
     for mark in word {
@@ -27,7 +37,8 @@ pub fn earliest_plan(alloc: Global, word: &[Mark]) -> Result<Plan, NoMemory> {
     })
 }
 
-/// The nodes of a word with each of these marks behind it, in order.
+/// The nodes of a word with each of these marks behind it, in order. Their ranks are those of the longer words where the
+/// problem is plain, the tables are its own, and each mark may follow the word.
 pub fn children_of(
     alloc: Global,
     actions: &PlainActions,
@@ -35,7 +46,9 @@ pub fn children_of(
     word: &[Mark],
     marks: &[Mark],
 ) -> Result<Vec<Node>, NoMemory>
-    ensures { IfOk result (λ v. vec_len v ≡ length marks.now) }
+    ensures len { IfOk result (λ v. vec_len v ≡ length marks.now) }
+    ensures nodes { is_plain problem.now ≡ true → AreTables problem.now actions.now → IsTrue (list_all (may_follow problem.now (progress problem.now word.now)) marks.now)
+        → IfOk result (λ v. v.items ≡ map (child_node problem.now word.now) marks.now) }
 {
     let walk = PlainWalk::over(alloc, actions, problem, word)?;
     let mut children = Vec::new(alloc);

@@ -4,6 +4,14 @@ ghost use Rattle.open_tree.specs.Charter.{SameCharter};
 ghost use Rattle.open_tree.specs.Room.{HasRoom};
 ghost use Rattle.open_tree.specs.Turns.{IsTurn, IsTold, has_outcome, event_list};
 ghost use Rattle.open_tree.specs.Answers.{GivesTaken, GivesMerged, MakesMove, is_over_answer};
+ghost use Rattle.open_tree.specs.Jobs.{IsJobOf};
+ghost use Rattle.open_tree.specs.Stands.{CoversAll, IsRoot};
+ghost use Rattle.open_tree.specs.Steps.{IsReady, IsStep, DoesStep};
+ghost use Rattle.open_tree.specs.PlainTables.{AreTables};
+ghost use Rattle.open_tree.specs.Nodes.{GivesLeast};
+ghost use Rattle.tp_spec.specs.Machine.{IsWholeRun, state_of, rank};
+ghost use Rattle.tp_spec.specs.WellFormed.{IsWellFormed};
+ghost use Rattle.tp_spec.specs.Plain.{is_plain};
 
 use crate::frontier::Frontier;
 use crate::job::{Job, Merged, Sprouts, Taken};
@@ -16,7 +24,8 @@ use std::snapshot::Snapshot;
 use tp_spec::{Cause, Event, Limits, List, NoMemory, Plan, Problem};
 use tp_world::Clock;
 
-/// The tree of words that are tried, with the clock that each turn reads once and the history of all turns.
+/// The tree of words that are tried on a plain problem, with the clock that each turn reads once and the history of all
+/// turns. The history is always a run of the situated machine that ends settled.
 #[derive(Drop)]
 pub struct Tree<'p, C: Clock> {
     alloc: Global,
@@ -34,6 +43,7 @@ pub struct Tree<'p, C: Clock> {
 impl<'p, C: Clock> Model for Tree<'p, C> {
     ghost use Rattle.open_tree.specs.Views.{TreeView};
     ghost use Rattle.open_tree.specs.Keeps.{Keeps};
+    ghost use Rattle.open_tree.specs.Stands.{Stands};
     ghost use Rattle.std.specs.Prelude.{vec_len, vec_capacity};
     ghost use Rattle.tp_spec.specs.contracts.expr.Expr as expr;
     ghost use Rattle.std.specs.Coded.{codes};
@@ -44,7 +54,7 @@ impl<'p, C: Clock> Model for Tree<'p, C> {
 
     ghost view = { λ t. record { problem = t.problem.now; limits = t.limits; clock = t.clock; opened = t.opened.value; history = t.history.items } };
 
-    ghost invariant = { λ t. Keeps (vec_len t.history) (vec_capacity t.history) (C.rate t.clock) t.problem.now.scale (C.count t.opened.value) (C.count t.clock) (C.given t.opened.value) (C.given t.clock) t.history.items t.over t.spare };
+    ghost invariant = { λ t. Keeps (vec_len t.history) (vec_capacity t.history) (C.rate t.clock) t.problem.now.scale (C.count t.opened.value) (C.count t.clock) (C.last t.opened.value) (C.last t.clock) (C.given t.opened.value) (C.given t.clock) t.history.items t.over t.spare × Stands t.problem.now t.limits t.actions t.frontier t.history.items };
 }
 
 /// What a merge is going to do, with all the memory that it takes.
@@ -57,19 +67,22 @@ enum Step {
 }
 
 impl<'p, C: Clock> Tree<'p, C> {
-    /// The tree of the empty word, which nobody took. Where memory is refused the clock comes back.
+    /// The tree of the empty word, which nobody took. The clock has the problem's rate, and the problem is plain. Where
+    /// memory is refused the clock comes back.
     pub fn new(
         alloc: Global,
         problem: &'p Problem,
         limits: Limits,
         clock: C,
     ) -> Result<Tree<'p, C>, (NoMemory, C)>
-        requires { C.rate clock ≡ problem.now.scale }
+        requires rate { C.rate clock ≡ problem.now.scale }
+        requires plain { is_plain problem.now ≡ true }
         ensures history { IfOk result (λ t. t.history ≡ []) }
         ensures problem { IfOk result (λ t. t.problem ≡ problem.now) }
         ensures limits { IfOk result (λ t. t.limits ≡ limits) }
         ensures clock { IfOk result (λ t. t.clock ≡ clock) }
         ensures opened { IfOk result (λ t. t.opened ≡ clock) }
+        ensures whole { IfOk result (λ t. IsWholeRun t.problem t.limits t.history) }
         ensures err { IfErr result (λ e. e.1 ≡ clock) }
     {
         let opened = Snapshot::of(&clock);
@@ -95,14 +108,16 @@ impl<'p, C: Clock> Tree<'p, C> {
         })
     }
 
-    /// One turn in which an actor takes the least open node, where there is one. Over exactly where an outcome stands.
-    /// Where memory is refused the turn is one halt; the clock was read all the same.
+    /// One turn in which an actor takes the least open node, where there is one. The job's word is live, and the job is of
+    /// the history as it stands then. Over exactly where an outcome stands. Where memory is refused the turn is one halt;
+    /// the clock was read all the same.
     pub fn take(&mut self, actor: u32) -> Result<Taken<'p>, NoMemory>
+        ensures whole { IsWholeRun self.new.problem self.new.limits self.new.history }
         ensures charter { SameCharter self.old self.new }
         ensures over { has_outcome self.old.history ≡ true → (result ≡ Ok Taken.Over) × (self.new ≡ self.old) }
         ensures turn { has_outcome self.old.history ≡ false → OnOk result (IsTurn self.old.history self.new.history actor (C.last self.new.clock)) }
         ensures count { has_outcome self.old.history ≡ false → C.count self.new.clock ≡ one_more (C.count self.old.clock) }
-        ensures taken { has_outcome self.old.history ≡ false → IfOk result (GivesTaken self.old.history self.new.history actor (C.last self.new.clock)) }
+        ensures taken { has_outcome self.old.history ≡ false → IfOk result (GivesTaken self.old.problem self.old.limits self.old.history self.new.history actor (C.last self.new.clock)) }
         ensures err { OnErr result (self.new.history ≡ self.old.history ++ Event.Halt Cause.Memory ∷ []) }
     {
         if self.over {
@@ -135,20 +150,24 @@ impl<'p, C: Clock> Tree<'p, C> {
         }
     }
 
-    /// One turn in which an actor hands in the sprouts of a job. The node that spells a plan is published, a node whose
-    /// marks would give too many ids is the limit, every other one is expanded; where that leaves no node, the search
-    /// is exhausted. Over exactly where an outcome stands at return, else stale where the node had left the frontier.
+    /// One turn in which an actor hands in the sprouts of a job that it took. A node that spells a plan is published, one whose
+    /// marks would give too many ids is the limit, every other one is expanded; where that leaves no node, the search is
+    /// exhausted. Over exactly where an outcome stands at return, else stale exactly where the node had left the frontier.
     /// Where memory is refused the turn is one halt, and the sprouts come back.
     pub fn merge(
         &mut self,
         actor: u32,
         sprouts: Sprouts<'p>,
     ) -> Result<Merged, (NoMemory, Sprouts<'p>)>
+        requires job { has_outcome self.old.history ≡ false → IsJobOf self.old.limits self.old.history actor sprouts.job }
+        requires problem { sprouts.job.problem ≡ self.old.problem }
+        requires limits { sprouts.job.limits ≡ self.old.limits }
+        ensures whole { IsWholeRun self.new.problem self.new.limits self.new.history }
         ensures charter { SameCharter self.old self.new }
         ensures over { has_outcome self.old.history ≡ true → (result ≡ Ok Merged.Over) × (self.new ≡ self.old) }
         ensures turn { has_outcome self.old.history ≡ false → OnOk result (IsTurn self.old.history self.new.history actor (C.last self.new.clock)) }
         ensures count { has_outcome self.old.history ≡ false → C.count self.new.clock ≡ one_more (C.count self.old.clock) }
-        ensures merged { has_outcome self.old.history ≡ false → IfOk result (GivesMerged self.old.history self.new.history actor (C.last self.new.clock) sprouts.entry) }
+        ensures merged { has_outcome self.old.history ≡ false → IfOk result (GivesMerged self.old.limits self.old.history self.new.history actor (C.last self.new.clock) sprouts.entry) }
         ensures err { OnErr result (self.new.history ≡ self.old.history ++ Event.Halt Cause.Memory ∷ []) }
         ensures back { IfErr result (λ e. e.1 ≡ sprouts.entry) }
     {
@@ -185,20 +204,25 @@ impl<'p, C: Clock> Tree<'p, C> {
 
     /// Ends the run with no outcome of the search, where none stands yet.
     pub fn halt(&mut self, cause: Cause)
+        ensures whole { IsWholeRun self.new.problem self.new.limits self.new.history }
         ensures charter { SameCharter self.old self.new }
         ensures over { has_outcome self.old.history ≡ true → self.new ≡ self.old }
         ensures halted { has_outcome self.old.history ≡ false → self.new.history ≡ self.old.history ++ Event.Halt cause ∷ [] }
         ensures clock { self.new.clock ≡ self.old.clock }
     {
-        if !self.over {
-            self.history.push_reserved(Event::Halt { cause });
-            self.over = true;
+        if self.over {
+            return;
         }
+        self.history.push_reserved(Event::Halt { cause });
+        self.over = true;
     }
 
-    /// All events so far.
+    /// All events so far. They are a run that ends settled, and each plan that is still possible begins with the word of
+    /// a node.
     pub fn history(&self) -> &[Event]
-        ensures { result.now ≡ self.now.history }
+        ensures events { result.now ≡ self.now.history }
+        ensures whole { IsWholeRun self.now.problem self.now.limits self.now.history }
+        ensures covered { CoversAll self.now.problem self.now.limits (state_of self.now.limits self.now.history) }
     {
         &self.history
     }
@@ -210,11 +234,13 @@ impl<'p, C: Clock> Tree<'p, C> {
         &self.limits
     }
 
-    /// The history and the clock.
+    /// The history, which is a run that ends settled, and the clock.
     pub fn into_parts(self) -> (Vec<Event>, C)
         ensures history { result.0.items ≡ self.entry.history }
+        ensures whole { IsWholeRun self.entry.problem self.entry.limits result.0.items }
         ensures clock { result.1 ≡ self.entry.clock }
-        ensures clocked { IsTold (C.count self.entry.opened) (C.count self.entry.clock) (C.given self.entry.opened) self.entry.history }
+        ensures rate { C.rate result.1 ≡ self.entry.problem.scale }
+        ensures clocked { IsTold (C.count self.entry.opened) (C.count self.entry.clock) (C.last self.entry.opened) (C.last self.entry.clock) (C.given self.entry.opened) self.entry.history }
     {
         let Tree {
             alloc: _,
@@ -253,7 +279,8 @@ fn is_over(merged: Merged) -> bool
 /// Does to the frontier what was prepared, and tells the events of it.
 fn move_of(frontier: &mut Frontier, actor: u32, sprouts: Sprouts<'_>, step: Step) -> Move
     requires { HasRoom sprouts.job.id frontier.old step }
-    ensures { MakesMove actor sprouts.entry result }
+    ensures events { MakesMove actor sprouts.entry result }
+    ensures does { DoesStep actor sprouts.entry.job.id sprouts.entry.marks frontier.old frontier.new result step }
 {
     let id = sprouts.id();
     match step {
@@ -339,7 +366,9 @@ fn empty_history(alloc: Global) -> Result<Vec<Event>, NoMemory>
 }
 
 /// The tables of a problem's actions, and the frontier of its root.
-fn root_of(alloc: Global, problem: &Problem) -> Result<(PlainActions, Frontier), NoMemory> {
+fn root_of(alloc: Global, problem: &Problem) -> Result<(PlainActions, Frontier), NoMemory>
+    ensures { is_plain problem.now ≡ true → IfOk result (λ r. IsRoot problem.now r.0 r.1) }
+{
     let actions = PlainActions::of(alloc, problem)?;
     let rank = root_rank(alloc, &actions, problem)?;
     let frontier = Frontier::root(alloc, rank)?;
@@ -347,7 +376,9 @@ fn root_of(alloc: Global, problem: &Problem) -> Result<(PlainActions, Frontier),
 }
 
 /// How many goal parts do not hold at the start.
-fn root_rank(alloc: Global, actions: &PlainActions, problem: &Problem) -> Result<u32, NoMemory> {
+fn root_rank(alloc: Global, actions: &PlainActions, problem: &Problem) -> Result<u32, NoMemory>
+    ensures { is_plain problem.now ≡ true → AreTables problem.now actions.now → IfOk result (λ n. IsWellFormed problem.now × (n ≡ rank problem.now [])) }
+{
     let walk = PlainWalk::at_start(alloc, actions, problem)?;
     Ok(walk.unmet(problem.goal.as_slice()))
 }
@@ -358,6 +389,7 @@ fn choose(
     history: &mut Vec<Event>,
     frontier: &Frontier,
 ) -> Result<Option<(u32, Node)>, NoMemory>
+    ensures least { IfOk result (GivesLeast frontier.now.nodes) }
     ensures items { history.new.items ≡ history.old.items }
     ensures room { OnOk result (vec_len history.new + 4 ≤ vec_capacity history.new) }
     ensures kept_room { vec_capacity history.old ≤ vec_capacity history.new }
@@ -380,7 +412,11 @@ fn prepare(
     actor: u32,
     sprouts: &Sprouts<'_>,
 ) -> Result<Step, NoMemory>
-    ensures step { IfOk result (HasRoom sprouts.now.job.id frontier.new) }
+    requires { IsReady problem.now nodes actions.now frontier.old actor sprouts.now.job.id sprouts.now.marks }
+    ensures step { IfOk result (IsStep problem.now nodes frontier.old actor sprouts.now.job.id sprouts.now.marks) }
+    ensures roomy { IfOk result (HasRoom sprouts.now.job.id frontier.new) }
+    ensures nodes { frontier.new.nodes ≡ frontier.old.nodes }
+    ensures made { frontier.new.made ≡ frontier.old.made }
     ensures items { history.new.items ≡ history.old.items }
     ensures room { OnOk result (vec_len history.new + 4 ≤ vec_capacity history.new) }
     ensures kept_room { vec_capacity history.old ≤ vec_capacity history.new }
@@ -399,8 +435,8 @@ fn prepare(
     }
     if frontier.made().saturating_add(marks.len()) > nodes as usize {
         return Ok(Step::Limit {
-            made: u32::try_from(frontier.made()).unwrap_or(u32::MAX),
-            marks: u32::try_from(marks.len()).unwrap_or(u32::MAX),
+            made: frontier.made() as u32,
+            marks: marks.len() as u32,
         });
     }
     let children = children_of(alloc, actions, problem, node.word(), marks)?;

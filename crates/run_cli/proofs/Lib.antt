@@ -1,1 +1,12 @@
-pub mod FlipLemmas
+pub mod OneWorker
+pub mod OneJob
+pub mod Solved
+pub mod Outcomes
+pub mod LiveMarks
+pub mod Bounded
+pub mod Answering
+pub mod Numerals
+pub mod Dashes
+pub mod FirstFaults
+pub mod Plans
+pub mod Refusing

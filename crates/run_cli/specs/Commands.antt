@@ -1,17 +1,26 @@
--- The words of the command line that are built.
-use Rattle.std.specs.Prelude.{ℕ, Bool, true, false, not, ◌&&◌, ◌==◌, List, [], ◌∷◌, codes, bytes_eq, String, string_bytes}
+-- The files that an order names.
+use Rattle.std.specs.Prelude.{ℕ, List, [], ◌∷◌, Option, Some, None, Bool, true, false}
+use Rattle.run_cli.specs.declared.words.Order.{Order}
+use Rattle.run_cli.specs.declared.words.WordFault.{WordFault}
+use Rattle.run_cli.specs.declared.words.WordFault.TheVariants.{NoMemory}
 
--- whether a word begins with `-`
-abbrev pub begins_with_dash : List ℕ → Bool
-begins_with_dash [] = false
-begins_with_dash (b ∷ rest) = b == 45
+abbrev pub first_of_names : List (List ℕ) → List ℕ
+first_of_names [] = []
+first_of_names (name ∷ rest) = name
 
--- exactly `solve` and one word that does not begin with `-`
-abbrev pub is_solve : List ℕ → List ℕ → Bool
-is_solve command name = bytes_eq command (codes "solve") && not (begins_with_dash name)
+-- the first file of an order
+abbrev pub first_file : Order → List ℕ
+first_file order = first_of_names order.files
 
-abbrev pub is_solve_words : {Y : Type 0} → List (String Y) → Bool
-is_solve_words [] = false
-is_solve_words (command ∷ []) = false
-is_solve_words (command ∷ name ∷ []) = is_solve (string_bytes command) (string_bytes name)
-is_solve_words (command ∷ name ∷ more ∷ rest) = false
+abbrev pub name_or_none : Option (List ℕ) → List ℕ
+name_or_none None = []
+name_or_none (Some name) = name
+
+-- the plan file of an order
+abbrev pub plan_file : Order → List ℕ
+plan_file order = name_or_none order.plan
+
+-- whether a fault says nothing of the words, but that memory was refused
+abbrev pub is_memory : WordFault → Bool
+is_memory NoMemory = true
+is_memory _ = false

@@ -1,3 +1,9 @@
-pub mod Flips
-pub mod PlainParts
 pub mod Commands
+pub mod OneWorker
+pub mod Options
+pub mod Orders
+pub mod Parts
+pub mod Solving
+pub mod Sprouting
+pub mod Validating
+pub mod VerdictTexts

@@ -1,15 +1,25 @@
-ghost use Rattle.std.specs.Prelude.{◌≡◌, ◌⊎◌, [], true, false, MatchOption, string_bytes};
+ghost use Rattle.std.specs.Prelude.{◌≡◌, ◌≢◌, ◌<◌, ◌⊎◌, [], map, length, true, false, IfSome, IsTrue, Ok, Err, codes, string_bytes};
 ghost use Rattle.std.specs.Io.KnownBytes.{Appends};
+ghost use Rattle.tp_spec.specs.Machine.{IsWholeRun};
+ghost use Rattle.tp_spec.specs.Texts.{result_text as result_text_of};
+ghost use Rattle.tp_laws.specs.Early.{IsPlain};
 ghost use Rattle.tp_world.specs.Counts.{Rose};
 ghost use Rattle.open_tree.specs.Turns.{IsTold};
-ghost use Rattle.run_cli.specs.Commands.{is_solve_words, is_solve as is_solve_of, begins_with_dash as begins_with_dash_of};
+ghost use Rattle.run_cli.specs.Commands.{first_file, plan_file, is_memory as is_memory_of};
+ghost use Rattle.run_cli.specs.Orders.{order_of, fault_text, HasPlan};
+ghost use Rattle.run_cli.specs.Solving.{status_of, EndsAs, Solves, IsSearched, IsSolved, IsTooLong, IsNotBuilt, EndsSolve, EndsValidate, EndsCommand, AreRefused};
+ghost use Rattle.run_cli.specs.declared.words.Order.{Order as OrderOf};
+ghost use Rattle.run_cli.specs.declared.words.WordFault.{WordFault as FaultOf};
 
+use crate::options::Command;
 use crate::printing::result_text;
-use crate::reader::{ReadFault, read_plain};
-use crate::sprouting::live_marks;
-use open_tree::{Job, Merged, PlainActions, Sprouts, Taken, Tree};
+use crate::reader::read_plain;
+use crate::search::search;
+use crate::validating::validate_files;
+use crate::words::{Order, WordFault, fault_line, read_words};
+use open_tree::Tree;
 use std::alloc::Global;
-use tp_spec::{Cause, Event, Limits, NoMemory, Problem};
+use tp_spec::{Event, Limits, NoMemory, Problem};
 use tp_world::{Clock, Files, Gate, LoadFault, SendFault, Sink};
 
 /// How a run ended: the status of the program, the events of its search, and the clock that it was given.
@@ -23,17 +33,11 @@ pub struct Ending<C> {
 /// The most bytes of a ground text.
 const MOST_BYTES: u64 = 1_048_576;
 
-/// The limits of a run: 64 acts, 2^40 ticks, no lead, 50,000 ids.
-const DEFAULT_LIMITS: Limits = Limits {
-    actions: 64,
-    horizon: 1_099_511_627_776,
-    lead: 0,
-    nodes: 50_000,
-};
-
-/// Does what the words say: `solve FILE` reads a ground text and prints a plan, `exhausted` or `limit`. Its status is 0
-/// where a plan is published, 1 where the search is exhausted, 2 at the limit of ids, 3 where the words are refused, 4
-/// where the file is, 5 where it can't be loaded, 6 where the output fails, and 7 where memory is refused.
+/// Does what the words say. `solve FILE` reads a ground text, searches with one worker, and prints a plan, `exhausted` or
+/// `limit`; `validate FILE --plan FILE` prints whether a plan is valid, and else the first of its parts that is broken.
+/// The status is 0 where a plan is published or valid, 1 where the search is exhausted or the plan is not valid, 2 at the
+/// limit of ids, 3 where the words are refused, 4 where a file is, 5 where one can't be loaded, 6 where the output fails,
+/// and 7 where memory is refused.
 pub fn run<F: Files, O: Sink + Send, C: Clock + Send, G: Gate>(
     alloc: Global,
     words: &[String],
@@ -42,49 +46,132 @@ pub fn run<F: Files, O: Sink + Send, C: Clock + Send, G: Gate>(
     clock: C,
     _gate: &G,
 ) -> Ending<C>
-    ensures words { result.status ≡ 3 → is_solve_words words.now ≡ false }
-    ensures refused { is_solve_words words.now ≡ false → (result.status ≡ 3) ⊎ ((result.status ≡ 6) ⊎ (result.status ≡ 7)) }
-    ensures load { result.status ≡ 5 → Rose (F.load_faults files.old) (F.load_faults files.new) }
+    ensures statuses { result.status < 8 }
+    ensures words { result.status ≡ 3 → AreRefused (map string_bytes words.now) (O.held out.old) (O.held out.new) }
+    ensures refused { (fault : FaultOf) → order_of (map string_bytes words.now) ≡ Err fault → (result.status ≡ 3) ⊎ ((result.status ≡ 6) ⊎ (result.status ≡ 7)) }
+    ensures command { (order : OrderOf) → order_of (map string_bytes words.now) ≡ Ok order → EndsCommand (F.contents files.old) order (C.rate result.clock) (F.load_faults files.old) (F.load_faults files.new) (O.held out.old) (O.held out.new) result.status result.history.items order.command }
     ensures write { result.status ≡ 6 → Rose (O.faults out.old) (O.faults out.new) }
     ensures empty { (result.status ≡ 3) ⊎ ((result.status ≡ 4) ⊎ (result.status ≡ 5)) → result.history.items ≡ [] }
-    ensures told { (result.status ≡ 0) ⊎ ((result.status ≡ 1) ⊎ (result.status ≡ 2)) → IsTold (C.count clock) (C.count result.clock) (C.given clock) result.history.items }
+    ensures contents { F.contents files.new ≡ F.contents files.old }
+    ensures told { IsTold (C.count clock) (C.count result.clock) (C.last clock) (C.last result.clock) (C.given clock) result.history.items }
 {
-    match solve_name(words) {
-        Some(name) => solve_file(alloc, name, files, out, clock),
-        None => say(alloc, out, b"refused words 0 NotBuilt\n", 3, clock),
+    match read_words(alloc, words) {
+        Ok(order) => run_order(alloc, &order, files, out, clock),
+        Err(fault) => refuse_words(alloc, fault, out, clock),
     }
 }
 
-/// The file of the words `solve FILE`; none for other words.
-fn solve_name(words: &[String]) -> Option<&str>
-    ensures { MatchOption result (is_solve_words words.now ≡ false) (λ name. is_solve_words words.now ≡ true) }
+/// Does what an order says.
+fn run_order<F: Files, O: Sink, C: Clock>(
+    alloc: Global,
+    order: &Order,
+    files: &mut F,
+    out: &mut O,
+    clock: C,
+) -> Ending<C>
+    requires one { length order.now.files ≡ 1 }
+    requires plan { HasPlan order.now }
+    ensures statuses { result.status < 8 }
+    ensures other { result.status ≢ 3 }
+    ensures command { EndsCommand (F.contents files.old) order.now (C.rate result.clock) (F.load_faults files.old) (F.load_faults files.new) (O.held out.old) (O.held out.new) result.status result.history.items order.now.command }
+    ensures write { result.status ≡ 6 → Rose (O.faults out.old) (O.faults out.new) }
+    ensures empty { (result.status ≡ 4) ⊎ (result.status ≡ 5) → result.history.items ≡ [] }
+    ensures contents { F.contents files.new ≡ F.contents files.old }
+    ensures told { IsTold (C.count clock) (C.count result.clock) (C.last clock) (C.last result.clock) (C.given clock) result.history.items }
 {
-    match words {
-        [] => None,
-        [_] => None,
-        [command, name] => {
-            if is_solve(command, name) {
-                Some(name.as_str())
-            } else {
-                None
-            }
+    let name = first_name(order);
+    match order.command {
+        Command::Solve => solve_file(alloc, name, order.limits, files, out, clock),
+        Command::Validate => {
+            let plan = plan_name(order);
+            judge_files(alloc, name, plan, &order.limits, files, out, clock)
         }
-        [_, _, _, ..] => None,
     }
 }
 
-fn is_solve(command: &String, name: &String) -> bool
-    ensures { result ≡ is_solve_of (string_bytes command.now) (string_bytes name.now) }
+/// The first file of an order; an empty name where there is none.
+fn first_name(order: &Order) -> &str
+    ensures { result.now ≡ first_file order.now }
 {
-    command.as_str() == "solve" && !begins_with_dash(name.as_str().as_bytes())
+    match order.files.as_slice() {
+        [name, ..] => name.as_str(),
+        [] => "",
+    }
 }
 
-fn begins_with_dash(word: &[u8]) -> bool
-    ensures { result ≡ begins_with_dash_of word.now }
+/// The plan file of an order; an empty name where there is none.
+fn plan_name(order: &Order) -> &str
+    ensures { result.now ≡ plan_file order.now }
 {
-    match word {
-        [first, ..] => *first == 45,
-        [] => false,
+    match &order.plan {
+        Some(name) => name.as_str(),
+        None => "",
+    }
+}
+
+/// Judges the plan of a file; nothing is searched, and the clock is not read.
+fn judge_files<F: Files, O: Sink, C: Clock>(
+    alloc: Global,
+    name: &str,
+    plan: &str,
+    limits: &Limits,
+    files: &mut F,
+    out: &mut O,
+    clock: C,
+) -> Ending<C>
+    ensures statuses { result.status < 8 }
+    ensures command { EndsValidate (F.contents files.old) name.now plan.now limits.now (F.load_faults files.old) (F.load_faults files.new) (O.held out.old) (O.held out.new) result.status result.history.items }
+    ensures write { result.status ≡ 6 → Rose (O.faults out.old) (O.faults out.new) }
+    ensures contents { F.contents files.new ≡ F.contents files.old }
+    ensures clock { result.clock ≡ clock }
+{
+    let status = validate_files(alloc, name, plan, limits, files, out);
+    Ending {
+        status,
+        history: Vec::new(alloc),
+        clock,
+    }
+}
+
+/// Prints the fault of the words and ends with status 3.
+fn refuse_words<O: Sink, C: Clock>(
+    alloc: Global,
+    fault: WordFault,
+    out: &mut O,
+    clock: C,
+) -> Ending<C>
+    ensures history { result.history.items ≡ [] }
+    ensures clock { result.clock ≡ clock }
+    ensures cases { (result.status ≡ 3) ⊎ ((result.status ≡ 6) ⊎ (result.status ≡ 7)) }
+    ensures fault { result.status ≡ 3 → is_memory_of fault ≡ false }
+    ensures memory { is_memory_of fault ≡ true → result.status ≡ 7 }
+    ensures said { result.status ≡ 3 → Appends (O.held out.old) (O.held out.new) (fault_text fault) }
+    ensures write { result.status ≡ 6 → Rose (O.faults out.old) (O.faults out.new) }
+{
+    if is_memory(fault) {
+        return out_of_memory(alloc, clock);
+    }
+    let Ok(line) = fault_line(alloc, fault) else {
+        return out_of_memory(alloc, clock);
+    };
+    say(alloc, out, &line, 3, clock)
+}
+
+/// Whether a fault says nothing of the words.
+fn is_memory(fault: WordFault) -> bool
+    ensures { result ≡ is_memory_of fault }
+{
+    match fault {
+        WordFault::NoMemory => true,
+        WordFault::NoCommand { .. } => false,
+        WordFault::UnknownCommand { .. } => false,
+        WordFault::UnknownOption { .. } => false,
+        WordFault::Twice { .. } => false,
+        WordFault::NoValue { .. } => false,
+        WordFault::BadNumber { .. } => false,
+        WordFault::FileCount { .. } => false,
+        WordFault::ScaleOfGround { .. } => false,
+        WordFault::Missing { .. } => false,
     }
 }
 
@@ -118,15 +205,17 @@ fn say<O: Sink, C: Clock>(
 fn solve_file<F: Files, O: Sink, C: Clock>(
     alloc: Global,
     name: &str,
+    limits: Limits,
     files: &mut F,
     out: &mut O,
     clock: C,
 ) -> Ending<C>
-    ensures other { (result.status ≡ 3) → ⊥ }
-    ensures load { result.status ≡ 5 → Rose (F.load_faults files.old) (F.load_faults files.new) }
+    ensures statuses { result.status < 8 }
+    ensures command { EndsSolve (F.contents files.old) name.now limits (C.rate result.clock) (F.load_faults files.old) (F.load_faults files.new) (O.held out.old) (O.held out.new) result.status result.history.items }
     ensures write { result.status ≡ 6 → Rose (O.faults out.old) (O.faults out.new) }
     ensures empty { (result.status ≡ 4) ⊎ (result.status ≡ 5) → result.history.items ≡ [] }
-    ensures told { (result.status ≡ 0) ⊎ ((result.status ≡ 1) ⊎ (result.status ≡ 2)) → IsTold (C.count clock) (C.count result.clock) (C.given clock) result.history.items }
+    ensures contents { F.contents files.new ≡ F.contents files.old }
+    ensures told { IsTold (C.count clock) (C.count result.clock) (C.last clock) (C.last result.clock) (C.given clock) result.history.items }
 {
     let text = match files.load(alloc, name, MOST_BYTES) {
         Ok(text) => text,
@@ -143,14 +232,17 @@ fn solve_file<F: Files, O: Sink, C: Clock>(
         Err(LoadFault::NoMemory) => return out_of_memory(alloc, clock),
     };
     match read_plain(alloc, &text) {
-        Ok(problem) => solve(alloc, &problem, out, clock),
-        Err(ReadFault::NotPlain) => say(alloc, out, b"refused ground 0 NotBuilt\n", 4, clock),
-        Err(ReadFault::NoMemory) => out_of_memory(alloc, clock),
+        Ok(Some(problem)) => solve(alloc, &problem, limits, out, clock),
+        Ok(None) => say(alloc, out, b"refused ground 0 NotBuilt\n", 4, clock),
+        Err(NoMemory) => out_of_memory(alloc, clock),
     }
 }
 
+/// Ends with an empty history where memory is refused.
 fn out_of_memory<C: Clock>(alloc: Global, clock: C) -> Ending<C>
     ensures status { result.status ≡ 7 }
+    ensures history { result.history.items ≡ [] }
+    ensures clock { result.clock ≡ clock }
 {
     Ending {
         status: 7,
@@ -159,19 +251,23 @@ fn out_of_memory<C: Clock>(alloc: Global, clock: C) -> Ending<C>
     }
 }
 
-/// Searches for a plan of a problem, and prints the result.
+/// Searches for a plan of a plain problem, and prints the result.
 fn solve<O: Sink, C: Clock>(
     alloc: Global,
     problem: &Problem,
+    limits: Limits,
     out: &mut O,
     mut clock: C,
 ) -> Ending<C>
-    ensures cases { (result.status ≡ 0) ⊎ ((result.status ≡ 1) ⊎ ((result.status ≡ 2) ⊎ ((result.status ≡ 6) ⊎ (result.status ≡ 7)))) }
+    requires { IsPlain problem.now }
+    ensures cases { (result.status < 3) ⊎ ((result.status ≡ 6) ⊎ (result.status ≡ 7)) }
     ensures write { result.status ≡ 6 → Rose (O.faults out.old) (O.faults out.new) }
-    ensures told { (result.status ≡ 7) ⊎ IsTold (C.count clock) (C.count result.clock) (C.given clock) result.history.items }
+    ensures told { IsTold (C.count clock) (C.count result.clock) (C.last clock) (C.last result.clock) (C.given clock) result.history.items }
+    ensures run { (result.history.items ≡ []) ⊎ IsWholeRun problem.now limits result.history.items }
+    ensures solved { result.status < 3 → Solves problem.now limits (C.rate result.clock) (O.held out.old) (O.held out.new) result.status result.history.items }
 {
     clock.begin(problem.scale);
-    let mut tree = match Tree::new(alloc, problem, DEFAULT_LIMITS, clock) {
+    let mut tree = match Tree::new(alloc, problem, limits, clock) {
         Ok(tree) => tree,
         Err((NoMemory, clock)) => return out_of_memory(alloc, clock),
     };
@@ -185,67 +281,44 @@ fn solve<O: Sink, C: Clock>(
     }
 }
 
-/// One worker takes, sprouts and merges until an outcome stands.
-fn search<C: Clock>(alloc: Global, problem: &Problem, tree: &mut Tree<'_, C>)
-    ensures { tree.new.opened ≡ tree.old.opened }
-{
-    let Ok(actions) = PlainActions::of(alloc, problem) else {
-        tree.halt(Cause::Memory);
-        return;
-    };
-    for _ in 0..u64::MAX {
-        match tree.take(1) {
-            Ok(Taken::Job(job)) => {
-                if !grow(alloc, problem, &actions, tree, job) {
-                    return;
-                }
-            }
-            Ok(Taken::Nothing) => return,
-            Ok(Taken::Over) => return,
-            Err(NoMemory) => return,
-        }
-    }
-}
-
-/// Sprouts a job and merges it. Whether the search goes on.
-fn grow<'p, C: Clock>(
-    alloc: Global,
-    problem: &Problem,
-    actions: &PlainActions,
-    tree: &mut Tree<'p, C>,
-    job: Job<'p>,
-) -> bool
-    ensures { tree.new.opened ≡ tree.old.opened }
-{
-    let Ok(marks) = live_marks(alloc, problem, actions, &job) else {
-        tree.halt(Cause::Memory);
-        return false;
-    };
-    match tree.merge(1, Sprouts::new(job, marks)) {
-        Ok(Merged::Done) => true,
-        Ok(Merged::Stale) => true,
-        Ok(Merged::Over) => false,
-        Err(_) => false,
-    }
-}
-
-/// Prints the result of a history, and tells the status.
+/// Prints the result of a history that ends a search, and tells the status.
 fn print_result<O: Sink>(alloc: Global, problem: &Problem, out: &mut O, history: &[Event]) -> u8
-    ensures cases { (result ≡ 0) ⊎ ((result ≡ 1) ⊎ ((result ≡ 2) ⊎ ((result ≡ 6) ⊎ (result ≡ 7)))) }
+    ensures cases { (result < 3) ⊎ ((result ≡ 6) ⊎ (result ≡ 7)) }
     ensures write { result ≡ 6 → Rose (O.faults out.old) (O.faults out.new) }
+    ensures ends { result < 3 → EndsAs history.now result }
+    ensures printed { result < 3 → Appends (O.held out.old) (O.held out.new) (result_text_of problem.now history.now) }
 {
-    let status = match history.last() {
-        Some(Event::Publish { .. }) => 0,
-        Some(Event::Exhaust) => 1,
-        Some(Event::Limit { .. }) => 2,
-        _ => return 7,
+    let Some(status) = end_status(history) else {
+        return 7;
     };
     let Ok(text) = result_text(alloc, problem, history) else {
         return 7;
     };
-    match out.put(text.as_str().as_bytes()) {
+    match out.put(&text) {
         Ok(()) => status,
         Err(SendFault::Failed) => 6,
         Err(SendFault::NoMemory) => 7,
+    }
+}
+
+/// The status of a search that ended with a history; none where it was halted.
+fn end_status(history: &[Event]) -> Option<u8>
+    ensures { IfSome result (λ status. (status < 3) × EndsAs history.now status) }
+{
+    match history {
+        [.., last] => outcome_status(last),
+        [] => None,
+    }
+}
+
+/// The status for an event that ends a search; none for every other event.
+fn outcome_status(event: &Event) -> Option<u8>
+    ensures { IfSome result (λ status. (status < 3) × (status ≡ status_of event.now)) }
+{
+    match event {
+        Event::Publish { .. } => Some(0),
+        Event::Exhaust => Some(1),
+        Event::Limit { .. } => Some(2),
+        _ => None,
     }
 }

@@ -1,4 +1,4 @@
-use Rattle.std.proofs.Common.{◌≡◌, ap, subst, ◌∙◌, eqb, ◌&&◌}
+use Rattle.std.proofs.Common.{◌≡◌, refl, ap, subst, ◌∙◌, eqb, ◌&&◌}
 use Rattle.std.specs.List.{list_any}
 use Rattle.tp_spec.specs.WellFormed.{IsWellFormed}
 use Rattle.open_tree.specs.FactSets.{has_place, words_for}
@@ -10,7 +10,7 @@ pub returns : goal.returns
 returns c plain tables =
     let p = c.args.problem.now in
     let begins : c.as_slice.result.now ≡ p.init = c.as_slice.ensures ∙ ap (λ q. q.init) c.problem.view_is in
-    started p _ (subst IsWellFormed c.problem.view_is c.problem.invariant) plain tables
+    started p _ (subst IsWellFormed c.problem.view_is c.problem.invariant) plain tables refl
     (subst (λ n. IsRowOf c.in_ok-of.field-0 (words_for n) (λ f. has_place (words_for n) f && list_any (λ g. eqb f g) p.init)) tables.facts
     (record {
       wide = c.in_ok-of.ensures.width;

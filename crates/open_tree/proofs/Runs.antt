@@ -1,0 +1,267 @@
+-- What holds in every state of a run of a plain problem: the clock stands at 0 without commitments, ids tell nodes apart,
+-- each word is live, and each possible plan begins with the word of a node.
+use Rattle.std.proofs.Common.{◌≡◌, refl, sym, ap, subst, ◌∙◌, ℕ, suc, ◌+◌, ◌<◌, ◌≤◌, ◌⊎◌, inl, inr, ◌==◌, max, nat_lt, Bool, true, false, not, ◌&&◌, cond, List, [], ◌∷◌, ◌++◌, length, map, Some, arith}
+use Rattle.std.specs.List.{filter, list_all}
+use Rattle.std.proofs.lemmas.Bool.{and_parts, and_from, false≢true, lt-ltb, ltb-true, eq-eqb}
+use Rattle.std.proofs.lemmas.Bool.Decides.{nat_tests}
+use Rattle.std.proofs.lemmas.List.Folds.{list_all-append}
+use Rattle.tp_spec.specs.declared.event.Event.{Event}
+use Rattle.tp_spec.specs.declared.event.Event.TheVariants.{Tick, Drop, Dispatch, Take, Expand, Publish, Limit, Exhaust, Halt}
+use Rattle.tp_spec.specs.declared.plan.Limits.{Limits}
+use Rattle.tp_spec.specs.declared.plan.Mark.{Mark}
+use Rattle.tp_spec.specs.declared.plan.Plan.{Plan}
+use Rattle.tp_spec.specs.declared.problem.Problem.{Problem}
+use Rattle.tp_spec.specs.Courses.{Possible}
+use Rattle.tp_spec.specs.Lists.{IsIn, BeginsWith, each_pair}
+use Rattle.tp_spec.specs.Machine.{Machine, Node, first, root, step, end_of, state_of, AreLegal, Legal, IsRun, IsCovered, DropIsLegal, ExpandIsLegal, taken_by, without, children, word_of}
+use Rattle.tp_spec.specs.Schedules.{Live}
+use Rattle.tp_spec.specs.Words.{Sound, spell}
+use Rattle.tp_laws.specs.Early.{IsPlain, IsEarly, consecutive}
+use Rattle.tp_laws.proofs.EarlyPlain.{is_instant}
+use Rattle.tp_laws.proofs.EarlyLive.{schedule-short}
+use Rattle.tp_laws.proofs.EarlyFronts.{live-front}
+use Rattle.tp_laws.proofs.EarlyCover.{cover-expand, in-without, word_of-in}
+
+-- members
+
+pub in-filter : {A : Type 0} (test : A → Bool) (x : A) (xs : List A) → IsIn x (filter test xs) → IsIn x xs
+in-filter test x [] h = h
+in-filter test x (y ∷ xs) h = by_test (λ i. in-filter test x xs i) (test y) h where
+  by_test : (IsIn x (filter test xs) → IsIn x xs) → (b : Bool) → IsIn x (cond b (y ∷ filter test xs) (filter test xs)) → IsIn x (y ∷ xs)
+  by_test ih true (inl e) = inl e
+  by_test ih true (inr i) = inr (ih i)
+  by_test ih false i = inr (ih i)
+
+pub in-append : {A : Type 0} (x : A) (xs ys : List A) → IsIn x (xs ++ ys) → IsIn x xs ⊎ IsIn x ys
+in-append x [] ys h = inr h
+in-append x (y ∷ xs) ys (inl e) = inl (inl e)
+in-append x (y ∷ xs) ys (inr h) = elim (in-append x xs ys h) [ inl i ↦ inl (inr i) | inr i ↦ inr i ]
+
+pub in-map : {A B : Type 0} (f : A → B) (y : B) (xs : List A) → IsIn y (map f xs) → (x : A) × IsIn x xs × (f x ≡ y)
+in-map f y [] h = absurd h
+in-map f y (x ∷ xs) (inl e) = (x, inl refl, e)
+in-map f y (x ∷ xs) (inr h) = let r = in-map f y xs h in (r.0, inr r.1, r.2)
+
+pub map-in : {A B : Type 0} (f : A → B) (x : A) (xs : List A) → IsIn x xs → IsIn (f x) (map f xs)
+map-in f x [] h = absurd h
+map-in f x (y ∷ xs) (inl e) = inl (ap f e)
+map-in f x (y ∷ xs) (inr h) = inr (map-in f x xs h)
+
+-- ids that tell nodes apart, and are below a bound
+
+abbrev pub differ : Node → Node → Bool
+differ a b = not (a.id == b.id)
+
+abbrev pub is_below : ℕ → Node → Bool
+is_below made n = nat_lt n.id made
+
+unequal : (a b : ℕ) → a < b → (a == b) ≡ false
+unequal a b h = grind (arith, nat_tests)
+
+all-filter : {A : Type 0} (good test : A → Bool) (xs : List A) → list_all good xs ≡ true → list_all good (filter test xs) ≡ true
+all-filter good test [] h = refl
+all-filter good test (x ∷ xs) h = elim (test x) as (λ b. list_all good (cond b (x ∷ filter test xs) (filter test xs)) ≡ true) [
+  | true ↦ and_from _ _ (and_parts _ _ h).0 (all-filter good test xs (and_parts _ _ h).1)
+  | false ↦ all-filter good test xs (and_parts _ _ h).1
+]
+
+apart-filter : (test : Node → Bool) (ns : List Node) → each_pair differ ns ≡ true → each_pair differ (filter test ns) ≡ true
+apart-filter test [] h = refl
+apart-filter test (n ∷ ns) h = elim (test n) as (λ b. each_pair differ (cond b (n ∷ filter test ns) (filter test ns)) ≡ true) [
+  | true ↦ and_from _ _ (all-filter (differ n) test ns (and_parts _ _ h).0) (apart-filter test ns (and_parts _ _ h).1)
+  | false ↦ apart-filter test ns (and_parts _ _ h).1
+]
+
+all-map : (f : Node → Node) → ((n : Node) → (f n).id ≡ n.id) → (n : Node) (ns : List Node) → list_all (differ (f n)) (map f ns) ≡ list_all (differ n) ns
+all-map f same n [] = refl
+all-map f same n (m ∷ ns) = λ i. not (same n i == same m i) && all-map f same n ns i
+
+apart-map : (f : Node → Node) → ((n : Node) → (f n).id ≡ n.id) → (ns : List Node) → each_pair differ (map f ns) ≡ each_pair differ ns
+apart-map f same [] = refl
+apart-map f same (n ∷ ns) = λ i. all-map f same n ns i && apart-map f same ns i
+
+below-map : (f : Node → Node) → ((n : Node) → (f n).id ≡ n.id) → (made : ℕ) (ns : List Node) → list_all (is_below made) (map f ns) ≡ list_all (is_below made) ns
+below-map f same made [] = refl
+below-map f same made (n ∷ ns) = λ i. nat_lt (same n i) made && below-map f same made ns i
+
+below-more : (a b : ℕ) (ns : List Node) → a ≤ b → list_all (is_below a) ns ≡ true → list_all (is_below b) ns ≡ true
+below-more a b [] le h = refl
+below-more a b (n ∷ ns) le h = and_from _ _ (lt-ltb n.id b (omega (arith, le, ltb-true n.id a (and_parts _ _ h).0))) (below-more a b ns le (and_parts _ _ h).1)
+
+-- children have the next ids
+
+children-below : (w : List Mark) (made top : ℕ) (marks : List Mark) → made + length marks ≤ top → list_all (is_below top) (children w made marks) ≡ true
+children-below w made top [] le = refl
+children-below w made top (a ∷ marks) le = and_from _ _ (lt-ltb made top (omega (arith, le))) (children-below w (suc made) top marks (omega (arith, le)))
+
+children-differ : (k : ℕ) (w : List Mark) (made : ℕ) (marks : List Mark) → k < made → list_all (λ n. not (k == n.id)) (children w made marks) ≡ true
+children-differ k w made [] lt = refl
+children-differ k w made (a ∷ marks) lt = and_from _ _ (ap not (unequal k made lt)) (children-differ k w (suc made) marks (omega (arith, lt)))
+
+children-apart : (w : List Mark) (made : ℕ) (marks : List Mark) → each_pair differ (children w made marks) ≡ true
+children-apart w made [] = refl
+children-apart w made (a ∷ marks) = and_from _ _ (children-differ made w (suc made) marks (omega arith)) (children-apart w (suc made) marks)
+
+apart-children : (ns : List Node) (w : List Mark) (made : ℕ) (marks : List Mark) → list_all (is_below made) ns ≡ true → each_pair differ ns ≡ true → each_pair differ (ns ++ children w made marks) ≡ true
+apart-children [] w made marks b h = children-apart w made marks
+apart-children (n ∷ ns) w made marks b h =
+    and_from _ _
+    (list_all-append (differ n) ns (children w made marks) ∙ and_from _ _ (and_parts _ _ h).0 (children-differ n.id w made marks (ltb-true n.id made (and_parts _ _ b).0)))
+    (apart-children ns w made marks (and_parts _ _ b).1 (and_parts _ _ h).1)
+
+-- a child's word has a mark more, and its id is new
+pub record IsChild (w : List Mark) (made : ℕ) (marks : List Mark) (n : Node) : Type 0 where
+  pub mark : Mark
+  pub there : IsIn mark marks
+  pub word : n.word ≡ w ++ mark ∷ []
+  pub new : made ≤ n.id
+
+pub in-children : (w : List Mark) (made : ℕ) (marks : List Mark) (n : Node) → IsIn n (children w made marks) → IsChild w made marks n
+in-children w made [] n h = absurd h
+in-children w made (a ∷ marks) n (inl e) = record { mark = a; there = inl refl; word = sym (ap (λ k. k.word) e); new = subst (λ k. made ≤ k) (ap (λ k. k.id) e) (omega arith) }
+in-children w made (a ∷ marks) n (inr h) = let r = in-children w (suc made) marks n h in record { mark = r.mark; there = inr r.there; word = r.word; new = omega (arith, r.new) }
+
+pub taken-id : (actor id : ℕ) (n : Node) → (taken_by actor id n).id ≡ n.id
+taken-id actor id n = elim (n.id == id) as (λ b. (cond b (record n { taker = Some actor }) n).id ≡ n.id) [ true ↦ refl | false ↦ refl ]
+
+pub taken-word : (actor id : ℕ) (n : Node) → (taken_by actor id n).word ≡ n.word
+taken-word actor id n = elim (n.id == id) as (λ b. (cond b (record n { taker = Some actor }) n).word ≡ n.word) [ true ↦ refl | false ↦ refl ]
+
+-- what holds in each state
+pub record IsTree (p : Problem) (l : Limits) (m : Machine) : Type 0 where
+  pub early : IsEarly m
+  pub below : list_all (is_below m.made) m.nodes ≡ true
+  pub live : (n : Node) → IsIn n m.nodes → Live p l 0 [] n.word
+  pub covers : (plan : Plan) → Possible p l 0 [] plan → IsCovered p m plan
+  pub few : m.made ≤ max 1 l.nodes
+
+module _ (p : Problem) (l : Limits) (plain : IsPlain p) where
+  -- the empty word is live
+  live-root : Live p l 0 [] []
+  live-root =
+      let sound : Sound p [] = record { follows = tt } in
+      record { sound = sound; schedule = consecutive; is = schedule-short p (is_instant p plain) l [] sound (record { starts = omega arith; opened = omega arith }) }
+
+  pub tree-first : IsTree p l first
+  tree-first = record {
+    early = record { still = refl; free = refl; told_apart = refl };
+    below = refl;
+    live = λ n h. elim h [ inl e ↦ subst (λ w. Live p l 0 [] w) (ap (λ k. k.word) e) live-root | inr k ↦ absurd k ];
+    covers = λ plan h. record { node = root; there = inl refl; begins = record { rest = spell p plan; is = refl } };
+    few = omega arith;
+  }
+
+  -- the same nodes at the same clock
+  tree-same : (m n : Machine) → n.now ≡ m.now → n.commits ≡ m.commits → n.nodes ≡ m.nodes → n.made ≡ m.made → IsTree p l m → IsTree p l n
+  tree-same m n now commits nodes made t = record {
+    early = record {
+      still = now ∙ t.early.still;
+      free = commits ∙ t.early.free;
+      told_apart = subst (λ ns. each_pair differ ns ≡ true) (sym nodes) t.early.told_apart;
+    };
+    below = (λ i. list_all (is_below (made i)) (nodes i)) ∙ t.below;
+    live = λ k h. t.live k (subst (λ ns. IsIn k ns) nodes h);
+    covers = λ plan h. let c : IsCovered p m plan = t.covers plan h in record { node = c.node; there = subst (λ ns. IsIn c.node ns) (sym nodes) c.there; begins = c.begins };
+    few = subst (λ k. k ≤ max 1 l.nodes) (sym made) t.few;
+  }
+
+  module _ (m : Machine) (t : IsTree p l m) where
+    pub now-possible : (plan : Plan) → Possible p l 0 [] plan → Possible p l m.now m.commits plan
+    now-possible plan h = subst (λ cs. Possible p l m.now cs plan) (sym t.early.free) (subst (λ n. Possible p l n [] plan) (sym t.early.still) h)
+
+    pub then-possible : (plan : Plan) → Possible p l m.now m.commits plan → Possible p l 0 [] plan
+    then-possible plan h = subst (λ cs. Possible p l 0 cs plan) t.early.free (subst (λ n. Possible p l n m.commits plan) t.early.still h)
+
+    pub now-live : (w : List Mark) → Live p l 0 [] w → Live p l m.now m.commits w
+    now-live w h = subst (λ cs. Live p l m.now cs w) (sym t.early.free) (subst (λ n. Live p l n [] w) (sym t.early.still) h)
+
+    pub then-live : (w : List Mark) → Live p l m.now m.commits w → Live p l 0 [] w
+    then-live w h = subst (λ cs. Live p l 0 cs w) t.early.free (subst (λ n. Live p l n m.commits w) t.early.still h)
+
+    tree-drop : (id : ℕ) → DropIsLegal p l m id → IsTree p l (step l m (Drop id))
+    tree-drop id legal = record {
+      early = record {
+        still = t.early.still;
+        free = t.early.free;
+        told_apart = apart-filter (λ n. not (n.id == id)) m.nodes t.early.told_apart;
+      };
+      below = all-filter (is_below m.made) (λ n. not (n.id == id)) m.nodes t.below;
+      live = λ n h. t.live n (in-filter (λ k. not (k.id == id)) n m.nodes h);
+      covers = λ plan h. let c : IsCovered p m plan = t.covers plan h in by_test plan h c (c.node.id == id) refl;
+      few = t.few;
+    }
+      where
+        by_test : (plan : Plan) → Possible p l 0 [] plan → (c : IsCovered p m plan) → (b : Bool) → (c.node.id == id) ≡ b → IsCovered p (step l m (Drop id)) plan
+        by_test plan h c false e = record { node = c.node; there = in-without id c.node m.nodes e c.there; begins = c.begins }
+        by_test plan h c true e =
+            let same : c.node.word ≡ legal.node.word =
+            sym (word_of-in id c.node m.nodes t.early.told_apart c.there e)
+            ∙ word_of-in id legal.node m.nodes t.early.told_apart legal.there (eq-eqb legal.node.id id legal.named) in
+            absurd (legal.hopeless plan (now-possible plan h) (subst (λ w. BeginsWith (spell p plan) w) same c.begins))
+
+    tree-take : (actor id : ℕ) → IsTree p l (step l m (Take actor id))
+    tree-take actor id = record {
+      early = record {
+        still = t.early.still;
+        free = t.early.free;
+        told_apart = apart-map (taken_by actor id) (taken-id actor id) m.nodes ∙ t.early.told_apart;
+      };
+      below = below-map (taken_by actor id) (taken-id actor id) m.made m.nodes ∙ t.below;
+      live = λ n h.
+          let from = in-map (taken_by actor id) n m.nodes h in
+          subst (λ w. Live p l 0 [] w) (sym (taken-word actor id from.0) ∙ ap (λ k. k.word) from.2) (t.live from.0 from.1);
+      covers = λ plan h.
+          let c : IsCovered p m plan = t.covers plan h in record {
+            node = taken_by actor id c.node;
+            there = map-in (taken_by actor id) c.node m.nodes c.there;
+            begins = subst (λ w. BeginsWith (spell p plan) w) (sym (taken-word actor id c.node)) c.begins;
+          };
+      few = t.few;
+    }
+
+    tree-expand : (actor id : ℕ) (marks : List Mark) → ExpandIsLegal p l m actor id marks → IsTree p l (step l m (Expand actor id marks))
+    tree-expand actor id marks legal = record {
+      early = record {
+        still = t.early.still;
+        free = t.early.free;
+        told_apart = apart-children (without id m.nodes) w m.made marks left (apart-filter (λ n. not (n.id == id)) m.nodes t.early.told_apart);
+      };
+      below = list_all-append (is_below (m.made + length marks)) (without id m.nodes) (children w m.made marks)
+          ∙ and_from _ _ (below-more m.made (m.made + length marks) (without id m.nodes) (omega arith) left) (children-below w m.made (m.made + length marks) marks (omega arith));
+      live = λ n h. elim (in-append n (without id m.nodes) (children w m.made marks) h) [
+        | inl i ↦ t.live n (in-filter (λ k. not (k.id == id)) n m.nodes i)
+        | inr i ↦ live-child n (in-children w m.made marks n i)
+      ];
+      covers = λ plan h. cover-expand p l m t.early (live-front p (is_instant p plain) l) actor id marks legal plan (now-possible plan h) (t.covers plan h);
+      few = omega (arith, legal.room);
+    }
+      where
+        w : List Mark
+        w = word_of id m.nodes
+
+        left : list_all (is_below m.made) (without id m.nodes) ≡ true
+        left = all-filter (is_below m.made) (λ n. not (n.id == id)) m.nodes t.below
+
+        word : w ≡ legal.node.word
+        word = word_of-in id legal.node m.nodes t.early.told_apart legal.taken.there (eq-eqb legal.node.id id legal.taken.named)
+
+        live-child : (n : Node) → IsChild w m.made marks n → Live p l 0 [] n.word
+        live-child n c = subst (λ v. Live p l 0 [] v) (ap (λ v. v ++ c.mark ∷ []) (sym word) ∙ sym c.word) (then-live (legal.node.word ++ c.mark ∷ []) (legal.exact.live c.mark c.there))
+
+    pub tree-step : (e : Event) → Legal p l m e → IsTree p l (step l m e)
+    tree-step (Tick actor reading) legal = tree-same m (step l m (Tick actor reading)) refl refl refl refl t
+    tree-step (Drop id) legal = tree-drop id legal
+    tree-step (Dispatch act) legal = absurd (false≢true legal.built)
+    tree-step (Take actor id) legal = tree-take actor id
+    tree-step (Expand actor id marks) legal = tree-expand actor id marks legal
+    tree-step (Publish actor id plan) legal = tree-same m (step l m (Publish actor id plan)) refl refl refl refl t
+    tree-step (Limit actor id made marks) legal = tree-same m (step l m (Limit actor id made marks)) refl refl refl refl t
+    tree-step Exhaust legal = tree-same m (step l m Exhaust) refl refl refl refl t
+    tree-step (Halt cause) legal = tree-same m (step l m (Halt cause)) refl refl refl refl t
+
+  pub tree-run : (m : Machine) (es : List Event) → AreLegal p l m es → IsTree p l m → IsTree p l (end_of l m es)
+  tree-run m [] legal t = t
+  tree-run m (e ∷ es) legal t = tree-run (step l m e) es legal.1 (tree-step m t e legal.0)
+
+  pub tree-of : (h : List Event) → IsRun p l h → IsTree p l (state_of l h)
+  tree-of h run = tree-run first h run.legal tree-first

@@ -1,0 +1,94 @@
+-- What stands at the end of a search.
+use Rattle.std.proofs.Common.{◌≡◌, refl, sym, ap, subst, ◌∙◌, ℕ, ◌<◌, ◌⊎◌, inl, inr, Option, Some, None, IfSome, false, List, [], ◌∷◌, ◌++◌, fold, arith}
+use Rattle.std.specs.List.{flat_map}
+use Rattle.std.proofs.lemmas.Bool.{false≢true}
+use Rattle.std.proofs.lemmas.List.Sums.{fold-append}
+use Rattle.tp_spec.specs.declared.event.Event.{Event}
+use Rattle.tp_spec.specs.declared.event.Event.TheVariants.{Tick, Drop, Dispatch, Take, Expand, Publish, Limit, Exhaust, Halt}
+use Rattle.tp_spec.specs.declared.plan.Limits.{Limits}
+use Rattle.tp_spec.specs.declared.problem.Problem.{Problem}
+use Rattle.tp_spec.specs.Following.{IsBusy}
+use Rattle.tp_spec.specs.Machine.{Machine, step, first, AreLegal, IsRun, IsWholeRun}
+use Rattle.tp_spec.specs.Texts.{command_of, out_text, result_text}
+use Rattle.tp_world.specs.Counts.{count_after}
+use Rattle.tp_world.specs.Readings.{AreNext}
+use Rattle.open_tree.specs.Charter.{SameCharter}
+use Rattle.open_tree.specs.Turns.{IsTold}
+use Rattle.open_tree.specs.Views.{TreeView}
+use Rattle.run_cli.specs.OneWorker.{HasSearched}
+use Rattle.run_cli.specs.Solving.{status_of, EndsAs}
+
+-- the status that the last of these events gives
+abbrev last_status : List Event → ℕ
+last_status h = fold (λ s e. status_of e) 7 h
+
+last_gives : (front : List Event) (e : Event) → last_status (front ++ e ∷ []) ≡ status_of e
+last_gives front e = fold-append (λ s x. status_of x) 7 front (e ∷ [])
+
+-- a search that ends with a result was not halted
+pub busy-of : (l : Limits) (h : List Event) (status : ℕ) → HasSearched l h → EndsAs h status → status < 3 → IsBusy l 1 h
+busy-of l h status s ends below = elim s.busy [
+  | inr busy ↦ busy
+  | inl halted ↦
+      let is : status ≡ 7 = ends.gives ∙ sym (last_gives ends.front ends.last) ∙ sym (ap last_status ends.is) ∙ ap last_status halted.is ∙ last_gives halted.front (Halt halted.cause) in
+      absurd (omega (arith, is, below))
+]
+
+-- while nothing is dispatched, no command is printed
+no-commands : (p : Problem) (l : Limits) (m : Machine) (h : List Event) → AreLegal p l m h → flat_map (command_of p) h ≡ []
+no-commands p l m [] legal = refl
+no-commands p l m (Tick actor reading ∷ h) legal = no-commands p l (step l m (Tick actor reading)) h legal.1
+no-commands p l m (Drop id ∷ h) legal = no-commands p l (step l m (Drop id)) h legal.1
+no-commands p l m (Dispatch act ∷ h) legal = absurd (false≢true legal.0.built)
+no-commands p l m (Take actor id ∷ h) legal = no-commands p l (step l m (Take actor id)) h legal.1
+no-commands p l m (Expand actor id marks ∷ h) legal = no-commands p l (step l m (Expand actor id marks)) h legal.1
+no-commands p l m (Publish actor id plan ∷ h) legal = no-commands p l (step l m (Publish actor id plan)) h legal.1
+no-commands p l m (Limit actor id made marks ∷ h) legal = no-commands p l (step l m (Limit actor id made marks)) h legal.1
+no-commands p l m (Exhaust ∷ h) legal = no-commands p l (step l m Exhaust) h legal.1
+no-commands p l m (Halt cause ∷ h) legal = no-commands p l (step l m (Halt cause)) h legal.1
+
+pub prints-result : (p : Problem) (l : Limits) (h : List Event) → IsRun p l h → result_text p h ≡ out_text p h
+prints-result p l h run = ap (λ commands. commands ++ result_text p h) (sym (no-commands p l first h run.legal))
+
+-- a tree of a search, from its clock before it began to its parts at the end
+module _ {C : Type 0} (count last : C → ℕ) (given : C → Option (List ℕ)) (p : Problem) (l : Limits) (clock begun end : C) (made new : TreeView C) (h : List Event)
+    (problem : made.problem ≡ p) (limits : made.limits ≡ l) (opened : made.opened ≡ begun) (same : SameCharter made new) (history : h ≡ new.history) (ends : end ≡ new.clock) where
+  problem-kept : new.problem ≡ p
+  problem-kept = sym same.problem ∙ problem
+
+  limits-kept : new.limits ≡ l
+  limits-kept = sym same.limits ∙ limits
+
+  pub whole-of : IsWholeRun new.problem new.limits h → IsWholeRun p l h
+  whole-of w = subst (λ q. IsWholeRun q l h) problem-kept (subst (λ m. IsWholeRun new.problem m h) limits-kept w)
+
+  pub searched-of : HasSearched new.limits new.history → HasSearched l h
+  searched-of s = subst (λ m. HasSearched m h) limits-kept (subst (HasSearched new.limits) (sym history) s)
+
+  pub told-of : count begun ≡ count clock → last begun ≡ last clock → given begun ≡ given clock
+      → IsTold (count new.opened) (count new.clock) (last new.opened) (last new.clock) (given new.opened) new.history
+      → IsTold (count clock) (count end) (last clock) (last end) (given clock) h
+  told-of counts lasts givens t =
+      let at_start : new.opened ≡ begun = sym same.opened ∙ opened in
+      let first : IsTold (count begun) (count new.clock) (last begun) (last new.clock) (given begun) new.history = subst (λ x. IsTold (count x) (count new.clock) (last x) (last new.clock) (given x) new.history) at_start t in
+      let second : IsTold (count begun) (count end) (last begun) (last end) (given begun) new.history = subst (λ x. IsTold (count begun) (count x) (last begun) (last x) (given begun) new.history) (sym ends) first in
+      let third : IsTold (count begun) (count end) (last begun) (last end) (given begun) h = subst (IsTold (count begun) (count end) (last begun) (last end) (given begun)) (sym history) second in
+      subst (λ n. IsTold n (count end) (last clock) (last end) (given clock) h) counts
+      (subst (λ n. IsTold (count begun) (count end) n (last end) (given clock) h) lasts
+      (subst (λ o. IsTold (count begun) (count end) (last begun) (last end) o h) givens third))
+
+-- where the clock was not read and the history is empty
+pub told-unread : (count count' last last' : ℕ) (given : Option (List ℕ)) (h : List Event) → count' ≡ count → last' ≡ last → h ≡ [] → IsTold count count' last last' given h
+told-unread count count' last last' given h counts lasts none = subst (IsTold count count' last last' given) (sym none) (record {
+  spare = false;
+  counted = counts ∙ still count;
+  latest = λ _. lasts;
+  behind = λ more. absurd (false≢true more);
+  next = none_read given;
+}) where
+  still : (n : ℕ) → n ≡ count_after n 0
+  still n = omega arith
+
+  none_read : (o : Option (List ℕ)) → IfSome o (λ xs. AreNext xs count [])
+  none_read None = tt
+  none_read (Some xs) = λ k below. absurd (omega (arith, below))
