@@ -28,7 +28,11 @@ fn name_of(alloc: Global, text: &str) -> Result<Name, AllocError>
     }
 }
 
-/// Names with the missing ones filled in, so that they rise.
+/// The most bytes of a name that is written out when the missing ones are filled in, so that no text asks for many times
+/// its own size of memory: there are at most 4,096 of them.
+const LONGEST_NAME: usize = 16_384;
+
+/// Names with the missing ones filled in, so that they rise. A longer name than the longest one counts as memory refused.
 fn filled_names(alloc: Global, names: &[Name]) -> Result<List<Name>, AllocError>
     ensures { IfOk result (λ xs. xs ≡ filled [] names.now) }
 {
@@ -36,6 +40,9 @@ fn filled_names(alloc: Global, names: &[Name]) -> Result<List<Name>, AllocError>
     let mut before = String::new(alloc);
     for name in names {
         before = name_or_next(alloc, before.as_str(), name.as_str())?;
+        if before.len() > LONGEST_NAME {
+            return Err(AllocError);
+        }
         items.push(name_of(alloc, before.as_str())?)?;
     }
     Ok(List::of(items))

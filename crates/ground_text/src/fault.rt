@@ -4,7 +4,8 @@ ghost use Rattle.ground_text.specs.declared.fault.LineFault.TheVariants.{NoMemor
 use std::alloc::AllocError;
 use thiserror::Error;
 
-/// Why a text of lines is not read: the line with its number, from 1, or want of memory.
+/// Why a text of lines is not read: the line with its number, from 1, or want of memory. A text that is refused and has a
+/// name of more than 16,384 bytes counts as that, since its line is looked for by writing names out.
 #[derive(Clone, Copy, Debug, PartialEq, Eq, Error)]
 pub enum LineFault {
     #[error("line {number} does not fit")]
