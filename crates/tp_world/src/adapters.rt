@@ -18,6 +18,7 @@ pub struct DiskFiles<R> {
     rt: R,
     load_faults: u64,
     save_faults: u64,
+    calls: u64,
 }
 
 impl<R: SystemFiles> DiskFiles<R> {
@@ -26,11 +27,13 @@ impl<R: SystemFiles> DiskFiles<R> {
         ensures contents { ⟦<DiskFiles<R> as Files>⟧.contents result ≡ None }
         ensures load_faults { ⟦<DiskFiles<R> as Files>⟧.load_faults result ≡ 0 }
         ensures save_faults { ⟦<DiskFiles<R> as Files>⟧.save_faults result ≡ 0 }
+        ensures calls { ⟦<DiskFiles<R> as Files>⟧.calls result ≡ 0 }
     {
         DiskFiles {
             rt,
             load_faults: 0,
             save_faults: 0,
+            calls: 0,
         }
     }
 }
@@ -42,8 +45,11 @@ impl<R: SystemFiles> Files for DiskFiles<R> {
 
     ghost save_faults = { λ f. f.save_faults };
 
+    ghost calls = { λ f. f.calls };
+
     /// At most one byte more than `most` is read. A file that cannot be read counts a fault.
     fn load(&mut self, alloc: Global, name: &str, most: u64) -> Result<Vec<u8>, LoadFault> {
+        self.calls = self.calls.saturating_add(1);
         match read_front(alloc, &self.rt, name, most.saturating_add(1)) {
             Ok(text) if text.len() as u64 > most => Err(LoadFault::TooLong),
             Ok(text) => Ok(text),
@@ -56,6 +62,7 @@ impl<R: SystemFiles> Files for DiskFiles<R> {
     }
 
     fn save(&mut self, _alloc: Global, name: &str, bytes: &[u8]) -> Result<(), SaveFault> {
+        self.calls = self.calls.saturating_add(1);
         match fs::write(&self.rt, name, bytes) {
             Ok(()) => Ok(()),
             Err(_) => {

@@ -35,6 +35,9 @@ pub trait Files {
     /// How often a save failed, up to the greatest `u64`.
     ghost save_faults: { Self → ℕ };
 
+    /// How often a load or a save was asked for, up to the greatest `u64`.
+    ghost calls: { Self → ℕ };
+
     /// The content of a name, of at most `most` bytes. It changes no content.
     fn load(&mut self, alloc: Global, name: &str, most: u64) -> Result<Vec<u8>, LoadFault>
         ensures within { IfOk result (λ text. vec_len text ≤ most) }
@@ -46,7 +49,8 @@ pub trait Files {
         ensures failed { IsErrOf result LoadFault.Failed → Rose (load_faults self.old) (load_faults self.new) }
         ensures contents { contents self.new ≡ contents self.old }
         ensures never_falls { load_faults self.old ≤ load_faults self.new }
-        ensures save_faults { save_faults self.new ≡ save_faults self.old };
+        ensures save_faults { save_faults self.new ≡ save_faults self.old }
+        ensures calls { calls self.new ≡ one_more (calls self.old) };
 
     /// Gives a name these bytes as its content. After a failure the name may have any content.
     fn save(&mut self, alloc: Global, name: &str, bytes: &[u8]) -> Result<(), SaveFault>
@@ -55,7 +59,8 @@ pub trait Files {
         ensures others { IsErrOf result SaveFault.Failed → KeepsOthers (contents self.old) (contents self.new) name.now }
         ensures no_memory { IsErrOf result SaveFault.NoMemory → contents self.new ≡ contents self.old }
         ensures never_falls { save_faults self.old ≤ save_faults self.new }
-        ensures load_faults { load_faults self.new ≡ load_faults self.old };
+        ensures load_faults { load_faults self.new ≡ load_faults self.old }
+        ensures calls { calls self.new ≡ one_more (calls self.old) };
 }
 
 /// Files in memory. Some of the loads and saves fail.
@@ -128,6 +133,8 @@ impl Files for MemoryFiles {
     ghost load_faults = { λ f. f.load_faults };
 
     ghost save_faults = { λ f. f.save_faults };
+
+    ghost calls = { λ f. f.calls };
 
     /// Memory may be refused wherever there is a content to give.
     fn load(&mut self, alloc: Global, name: &str, most: u64) -> Result<Vec<u8>, LoadFault>
