@@ -59,7 +59,7 @@ impl Builder {
 
     /// Ends the innermost list, and says whether one was open.
     #[tactic(auto, using(crate::proofs::Growth::read_end))]
-    fn end(&mut self, close: u32) -> Result<bool, NoMemory>
+    fn end(&mut self, alloc: Global, close: u32) -> Result<bool, NoMemory>
         ensures read { result ≡ Ok true → read_so_far self.new.frames.items self.new.parts ≡ read_so_far self.old.frames.items self.old.parts ++ Closes close ∷ [] }
         ensures stack { result ≡ Ok true → IsTail (stack_of self.new.frames.items) (stack_of self.old.frames.items) }
         ensures none { result ≡ Ok false → stack_of self.old.frames.items ≡ [] }
@@ -69,7 +69,7 @@ impl Builder {
             Some(frame) => {
                 let Frame { before, at } = frame;
                 let parts = mem::replace(&mut self.parts, before);
-                self.parts.push(group(at, close, parts))?;
+                self.parts.push(group(alloc, at, close, parts))?;
                 Ok(true)
             }
         }
@@ -107,7 +107,7 @@ impl Builder {
             self.begin(alloc, at)?;
             Ok(())
         } else if c == b')' {
-            if self.end(at)? {
+            if self.end(alloc, at)? {
                 Ok(())
             } else {
                 Err(TextFault::Unopened { at })

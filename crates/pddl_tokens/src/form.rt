@@ -2,7 +2,7 @@ ghost use Rattle.std.specs.Prelude.{◌≡◌, ◌∷◌, [], ◌++◌};
 ghost use Rattle.pddl_tokens.specs.Tokens.{Spells, Opens, Closes};
 ghost use Rattle.pddl_tokens.specs.Trees.{Trees, tree_of, trees_of, spelled, all_spelled};
 
-use std::alloc::{AllocError, AllocFailed};
+use std::alloc::{AllocError, AllocFailed, Global};
 use thiserror::Error;
 use tp_spec::{List, NoMemory};
 
@@ -86,9 +86,39 @@ pub(crate) fn single(word: Word) -> Form
     Form::Single(word)
 }
 
-pub(crate) fn group(at: u32, close: u32, parts: List<Form>) -> Form
+/// Lists of at most so many members are copied to memory that just holds them.
+const FEW: usize = 8;
+
+/// Some forms in memory that just holds them, or as they are where that is refused. What a short list grew in then
+/// serves the next one; given back in part, it would stay as a hole.
+fn copied(alloc: Global, mut forms: Vec<Form>) -> Vec<Form>
+    ensures { result.items ≡ forms.items }
+{
+    match Vec::with_capacity(alloc, forms.len()) {
+        Err(_) => forms,
+        Ok(mut copy) => match copy.append(&mut forms) {
+            Ok(()) => copy,
+            Err(_) => forms,
+        },
+    }
+}
+
+/// A list that holds no memory beyond its members, where that can be had: most lists of a text are short, and all stay.
+fn fitted(alloc: Global, parts: List<Form>) -> List<Form>
+    ensures { result ≡ parts }
+{
+    let mut forms = parts.into_vec();
+    if forms.len() <= FEW {
+        return List::of(copied(alloc, forms));
+    }
+    forms.shrink_to_fit();
+    List::of(forms)
+}
+
+pub(crate) fn group(alloc: Global, at: u32, close: u32, parts: List<Form>) -> Form
     ensures { spelled (tree_of result) ≡ Opens at ∷ (all_spelled (trees_of parts) ++ Closes close ∷ []) }
 {
+    let parts = fitted(alloc, parts);
     Form::Group { at, close, parts }
 }
 
