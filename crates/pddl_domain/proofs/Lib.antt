@@ -1,2 +1,5 @@
-pub mod Ancestors
+pub mod Ways
+pub mod Walks
+pub mod Above
+pub mod Inside
 pub mod Sorts

@@ -1,4 +1,6 @@
 pub mod Types
+pub mod Walks
+pub mod Cycles
 pub mod Heads
 pub mod Parts
 pub mod Sections

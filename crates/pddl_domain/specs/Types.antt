@@ -1,12 +1,11 @@
 -- The types of a domain, and what is wrong with their declarations.
-use Rattle.std.specs.Prelude.{ℕ, zero, suc, Bool, true, false, not, ◌&&◌, ◌||◌, nat_eq, if◌then◌else◌, List, [], ◌∷◌, ◌++◌, length, get_or, Option, Some, None, position, codes}
-use Rattle.std.specs.List.{list_any}
+use Rattle.std.specs.Prelude.{ℕ, zero, suc, Bool, true, false, ◌||◌, nat_eq, if◌then◌else◌, List, [], ◌∷◌, ◌++◌, length, get_or, Option, Some, None, position, codes}
 use Rattle.std.specs.Str.{bytes_eq}
 use Rattle.pddl_tokens.specs.Trees.{Trees, Leaf, Node, End, More}
 use Rattle.pddl_parts.specs.declared.faults.Fault.{Fault}
 use Rattle.pddl_parts.specs.declared.faults.Kind.TheVariants.{Twice, Cycle}
 use Rattle.pddl_parts.specs.declared.typed.Part.{Part}
-use Rattle.pddl_parts.specs.declared.typed.Part.TheVariants.{Start, Items, Hyphen}
+use Rattle.pddl_parts.specs.declared.typed.Part.TheVariants.{Start}
 use Rattle.pddl_parts.specs.declared.typed.Rule.{Rule}
 use Rattle.pddl_parts.specs.First.{fault}
 use Rattle.pddl_parts.specs.Names.{with_name, is_new}

@@ -6,6 +6,7 @@
 #![tactic(auto)]
 
 mod actions;
+mod ancestors;
 mod bounds;
 mod cycles;
 mod domain;

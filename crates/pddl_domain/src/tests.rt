@@ -1,4 +1,7 @@
+use crate::domain::Bound;
 use crate::reader::read_domain;
+use pddl_meaning::Value;
+use pddl_parts::PddlFault;
 use pddl_tokens::read_forms;
 use std::test::Fail;
 
@@ -131,5 +134,35 @@ fn first_faults(rt: HostRuntime) -> Result<(), Fail> {
         number = number.wrapping_add(1);
     }
     assert_eq!(rt; number, 112);
+    Ok(())
+}
+
+#[test]
+fn half_a_unit(rt: HostRuntime) -> Result<(), Fail> {
+    let text =
+        "(define (domain d) (:predicates (p)) (:durative-action w :parameters () :duration (= ?duration 5.5) :condition () :effect (at end (p))))";
+    let forms = read_forms(rt.alloc(), text.as_bytes())?;
+    let fault = match read_domain(rt.alloc(), &forms, 1) {
+        Ok(_) => None,
+        Err(fault) => Some(fault),
+    };
+    assert_eq!(rt; fault, Some(PddlFault::NotWhole { at: 95 }));
+    let domain = read_domain(rt.alloc(), &forms, 10)?;
+    let [action] = domain.actions.as_slice() else {
+        return Err(Fail::new("one action"));
+    };
+    assert_eq!(rt; action.name.as_str(), "w");
+    let bounds = match &action.bounds {
+        None => return Err(Fail::new("a durative action")),
+        Some(bounds) => bounds.as_slice(),
+    };
+    let [
+        Bound::Least(Value::Number(least)),
+        Bound::Most(Value::Number(most)),
+    ] = bounds
+    else {
+        return Err(Fail::new("the least and the most"));
+    };
+    assert_eq!(rt; (*least, *most), (55, 55));
     Ok(())
 }

@@ -45,6 +45,6 @@ pub fn types_fault(
     };
     let typed = typed_fault(rule, &Names::new(alloc), close, members);
     let (parents, again) = parents_of(alloc, types, members)?;
-    let cycle = cycle_fault(types, &parents, members)?;
+    let cycle = cycle_fault(alloc, types, &parents, members)?;
     Ok(earlier(typed, earlier(again, cycle)))
 }
