@@ -1,5 +1,5 @@
 -- What an element of `:init` names: a function with its value, or a literal with its time.
-use Rattle.std.specs.Prelude.{ℕ, ℤ, pos, Bool, true, false, not, nat_eq, ◌&&◌, if◌then◌else◌, List, [], ◌∷◌, ◌++◌, Option, Some, None, codes, unsigned_abs}
+use Rattle.std.specs.Prelude.{ℕ, ℤ, Bool, true, false, not, nat_eq, ◌&&◌, if◌then◌else◌, List, [], ◌∷◌, ◌++◌, Option, None, codes, unsigned_abs}
 use Rattle.std.specs.Int.{to_be_bytes, w64}
 use Rattle.std.specs.Str.{bytes_eq}
 use Rattle.std.specs.List.{list_all}
@@ -7,7 +7,7 @@ use Rattle.std.specs.Result.{result_ok}
 use Rattle.pddl_tokens.specs.Numbers.{number_of}
 use Rattle.pddl_tokens.specs.Trees.{Trees, Leaf, Node, End, More}
 use Rattle.pddl_meaning.specs.Terms.{behind_first}
-use Rattle.pddl_problem.specs.Literals.{is_dated}
+use Rattle.pddl_problem.specs.Literals.{is_dated, is_below_zero}
 
 -- whether all members are words
 abbrev pub are_words : Trees → Bool
@@ -77,9 +77,15 @@ atom_in (More (Leaf head text) rest) = if bytes_eq text (codes "not") then first
 abbrev pub literal_in : Trees → Trees
 literal_in members = first_list (behind_first members)
 
+-- the time at a scale that a numeral says, where one comes first; a numeral below 0 says none
+abbrev pub first_time : ℕ → Trees → Option ℤ
+first_time scale End = None
+first_time scale (More (Leaf at text) rest) = if is_below_zero text then None else result_ok (number_of scale text)
+first_time scale (More (Node at close parts) rest) = None
+
 -- the time of a literal over words
 abbrev pub time_in : ℕ → Trees → Option ℤ
-time_in scale members = if are_words (atom_in (literal_in members)) then first_number scale members else None
+time_in scale members = if are_words (atom_in (literal_in members)) then first_time scale members else None
 
 -- a time and an atom as one text: the eight bytes of the tick come first, so another tick or another atom makes another text
 abbrev pub dated_words : ℤ → List ℕ → List ℕ

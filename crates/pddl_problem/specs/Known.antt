@@ -1,5 +1,5 @@
 -- What a problem may name: what its domain declares, and its own objects.
-use Rattle.std.specs.Prelude.{ℕ, List, [], ◌∷◌, length, codes}
+use Rattle.std.specs.Prelude.{ℕ, List, [], ◌∷◌, length}
 use Rattle.pddl_tokens.specs.Trees.{Trees}
 use Rattle.pddl_parts.specs.declared.scope.Scope.{Scope}
 use Rattle.pddl_parts.specs.declared.typed.Part.TheVariants.{Start}

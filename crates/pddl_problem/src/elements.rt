@@ -2,9 +2,9 @@ ghost use Rattle.std.specs.Prelude.{◌≡◌, ◌<◌, ◌^◌, ◌++◌, IfOk,
 ghost use Rattle.std.specs.Result.{result_ok};
 ghost use Rattle.pddl_tokens.specs.Numbers.{IsScale};
 ghost use Rattle.pddl_tokens.specs.Trees.{Trees, trees_of};
-ghost use Rattle.pddl_problem.specs.Elements.{are_words, joined_words, first_list, first_number, behind_equal, value_in, behind_at, is_positive, atom_in, literal_in, time_in, dated_words, texts_of, have_no_blank};
+ghost use Rattle.pddl_problem.specs.Elements.{are_words, joined_words, first_list, first_number, behind_equal, value_in, behind_at, is_positive, atom_in, literal_in, first_time, time_in, dated_words, texts_of, have_no_blank};
 
-use crate::literals::is_dated;
+use crate::literals::{is_below_zero, is_dated};
 use pddl_meaning::behind_first;
 use pddl_tokens::{Form, Head, head_of, number};
 use std::alloc::Global;
@@ -165,13 +165,32 @@ pub fn literal_in(members: &[Form]) -> &[Form]
     first_list(behind_first(members))
 }
 
+/// The time that a numeral says in units of `scale`, where one comes first that is not below 0.
+fn first_time(scale: u32, forms: &[Form]) -> Option<i64>
+    requires { IsScale scale }
+    ensures { result ≡ first_time scale (trees_of forms.now) }
+{
+    match head_of(forms) {
+        Head::Missing | Head::List { .. } => None,
+        Head::Word(word, _) => {
+            if is_below_zero(word.text.as_slice()) {
+                return None;
+            }
+            match number(word, scale) {
+                Ok(number) => Some(number),
+                Err(_) => None,
+            }
+        }
+    }
+}
+
 /// The time of a timed literal over words, by its members behind `at`.
 pub fn time_in(scale: u32, members: &[Form]) -> Option<i64>
     requires { IsScale scale }
     ensures { result ≡ time_in scale (trees_of members.now) }
 {
     if are_words(atom_in(literal_in(members))) {
-        first_number(scale, members)
+        first_time(scale, members)
     } else {
         None
     }

@@ -20,3 +20,6 @@ mod task;
 pub use elements::texts_are_apart;
 pub use reader::read_problem;
 pub use task::{Dated, Given, Task};
+
+#[cfg(test)]
+mod tests;

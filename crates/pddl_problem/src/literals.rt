@@ -200,7 +200,7 @@ fn has_digit(text: &[u8]) -> bool
 }
 
 /// Whether a numeral is below 0: it has a minus and a digit that is not 0.
-fn is_below_zero(text: &[u8]) -> bool
+pub fn is_below_zero(text: &[u8]) -> bool
     ensures { result ≡ is_below_zero text.now }
 {
     begins_with(b'-', text) && has_digit(text)

@@ -1,6 +1,5 @@
-use Rattle.std.proofs.Common.{◌≡◌, IfOk, codes, ap, subst, ◌∙◌}
+use Rattle.std.proofs.Common.{◌≡◌, IfOk, ap, subst, ◌∙◌}
 use Rattle.pddl_tokens.specs.Trees.{trees_of}
-use Rattle.pddl_parts.specs.Members.{members_of}
 use Rattle.pddl_problem.specs.declared.task.Task.{Task}
 use Rattle.pddl_problem.specs.Elements.{first_list}
 use Rattle.pddl_problem.specs.Meaning.{symbols_of, task_from, task_in}
