@@ -1,0 +1,5 @@
+(define (problem night)
+  (:domain pump)
+  (:objects north south - tank)
+  (:init (open south) (= (level north) 0) (= (level south) 5) (at 3 (power)) (at 9 (not (power))))
+  (:goal (and (>= (level north) 10) (watched north))))
