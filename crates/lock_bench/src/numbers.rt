@@ -1,5 +1,5 @@
 //! A list of numbers, as a story.
-ghost use Rattle.std.specs.Prelude.{◌≡◌, length};
+ghost use Rattle.std.specs.Prelude.{◌≡◌, ◌≤◌, [], length, IfOk, vec_capacity};
 ghost use mathlib.Core.List.{IsPrefix};
 
 use std::alloc::{AllocError, Global};
@@ -13,7 +13,10 @@ pub struct Numbers {
 
 impl Numbers {
     /// No numbers yet, and room for so many.
-    pub fn with_room(alloc: Global, room: usize) -> Result<Numbers, AllocError> {
+    pub fn with_room(alloc: Global, room: usize) -> Result<Numbers, AllocError>
+        ensures empty { IfOk result (λ n. n.items.items ≡ []) }
+        ensures room { IfOk result (λ n. room ≤ vec_capacity n.items) }
+    {
         Ok(Numbers {
             items: Vec::with_capacity(alloc, room)?,
         })

@@ -7,5 +7,6 @@ pub mod Standing
 pub mod Ticks
 pub mod Quiet
 pub mod Walk
+pub mod Watched
 pub mod Judgement
 pub mod Broken

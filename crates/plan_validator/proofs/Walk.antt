@@ -134,7 +134,7 @@ pub first_late : (t : ℕ) (xs : List Standing) (d : Standing) → 1 ≤ length 
 first_late t [] d h from = absurd (omega (arith, h))
 first_late t (x ∷ xs) d h from = leb-true t x.tick (and_parts (nat_le t x.tick) (list_all (λ z. nat_le t z.tick) xs) from).0
 
-later_all : (m n : ℕ) → m ≤ n → (xs : List Standing) → AllFrom n xs → AllFrom m xs
+pub later_all : (m n : ℕ) → m ≤ n → (xs : List Standing) → AllFrom n xs → AllFrom m xs
 later_all m n le [] h = refl
 later_all m n le (x ∷ xs) h =
     let parts = and_parts (nat_le n x.tick) (list_all (λ z. nat_le n z.tick) xs) h in

@@ -1,9 +1,12 @@
 ghost use Rattle.std.specs.Prelude.{◌≡◌, length, IfOk, IsTrue};
 ghost use Rattle.std.specs.List.{list_all};
+ghost use Rattle.tp_spec.specs.Lists.{each_next};
+ghost use Rattle.tp_spec.specs.Courses.{act_before};
 ghost use Rattle.plan_validator.specs.Acts.{is_of};
 ghost use Rattle.plan_validator.specs.Standings.{item_of, front_at, behind_at, AreStandings};
 ghost use Rattle.plan_validator.specs.Course.{IsCourse};
 
+use crate::running::{later, let_go, take_in};
 use crate::standings::{Place, Standing};
 use crate::tick::{Judged, judge_tick};
 use snap_actions::items_of;
@@ -12,7 +15,7 @@ use tp_spec::{Item, NoMemory, Problem, Timed};
 use world_state::initial;
 
 /// Judges a plan's ticks up to its end, happening by happening: between two of them nothing changes and nothing begins
-/// to run.
+/// to run. The running acts are kept from one to the next, so that none goes over all acts.
 ///
 /// PDDL 2.1, section 6 (the trace of a plan).
 pub(crate) fn judge_course(
@@ -22,12 +25,15 @@ pub(crate) fn judge_course(
     end: u64,
     standings: &[Standing],
 ) -> Result<Judged, NoMemory>
+    requires in_order { IsTrue (each_next act_before acts.now) }
     requires inside { IsTrue (list_all (is_of (length problem.now.actions)) acts.now) }
     requires standings { AreStandings problem.now acts.now 0 standings.now }
     ensures { IfOk result (λ r. IsCourse problem.now acts.now end r) }
 {
     let tables = items_of(alloc, problem)?;
     let mut state = initial(alloc, problem)?;
+    let mut running = Vec::new(alloc);
+    let mut coming = acts;
     let mut rest = standings;
     while let [first, ..] = rest {
         let tick = first.tick;
@@ -35,7 +41,10 @@ pub(crate) fn judge_course(
             return Ok(Judged::Passed(state));
         }
         let here = items_at(alloc, rest, tick)?;
-        match judge_tick(alloc, problem, &tables, acts, tick, &here, &state)? {
+        let_go(&mut running, tick);
+        take_in(problem, &mut running, coming, tick)?;
+        coming = later(coming, tick);
+        match judge_tick(alloc, problem, &tables, &running, tick, &here, &state)? {
             Judged::Fault(verdict) => return Ok(Judged::Fault(verdict)),
             Judged::Passed(next) => state = next,
         }

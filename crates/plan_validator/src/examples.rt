@@ -1,8 +1,10 @@
 ghost use Rattle.std.specs.Prelude.{◌^◌, ◌-◌, pos, [], ◌∷◌};
 ghost use Rattle.tp_spec.specs.declared.plan.Item.TheVariants.{TimedAt, End, Start};
-ghost use Rattle.tp_laws.specs.Examples.{wide, truth, lamp, switch, gated, tank, act, plan};
-ghost use Rattle.plan_validator.specs.declared.verdict.Verdict.TheVariants.{TooLong, TwiceAt, LengthOut, Overlap, EndOff, Clash, Overflow, Broken, GoalUnmet};
+ghost use Rattle.tp_laws.specs.Examples.{wide, truth, lamp, switch, arch, gated, tank, act, plan};
+ghost use Rattle.plan_validator.specs.declared.verdict.Verdict.TheVariants.{Valid, TooLong, TwiceAt, LengthOut, Overlap, EndOff, Clash, Overflow, Broken, GoalUnmet};
 ghost use Rattle.plan_validator.specs.Verdicts.{IsVerdict};
+
+use tp_laws::{invariants_given_together, unsafe_plans};
 
 /// Acts that are refused before any tick is judged, and a plan whose end is no happening.
 pub fn refused_acts()
@@ -23,3 +25,13 @@ pub fn refused_ticks()
     ensures at_once { IsVerdict (gated (truth 1 ∷ []) [] 9) wide (plan (act 0 0 5 ∷ []) 5) (Broken 0 0) }
     ensures goal { IsVerdict lamp wide (plan [] 0) (GoalUnmet 0) }
 {}
+
+/// Valid plans: an end that needs a fact one tick before it is deleted, and two actions that give each other's
+/// invariant in one happening.
+pub fn accepted_plans()
+    ensures in_time { IsVerdict (gated [] (truth 2 ∷ []) 6) wide (plan (act 0 0 5 ∷ []) 5) Valid }
+    ensures together { IsVerdict arch wide (plan (act 0 0 4 ∷ act 1 0 4 ∷ []) 4) Valid }
+{
+    unsafe_plans();
+    invariants_given_together();
+}

@@ -6,13 +6,14 @@ mod course;
 mod examples;
 mod judge;
 mod laws;
+mod running;
 mod standings;
 #[cfg(test)]
 mod tests;
 mod tick;
 mod verdict;
 
-pub use examples::{refused_acts, refused_ticks};
+pub use examples::{accepted_plans, refused_acts, refused_ticks};
 pub use judge::validate;
 pub use laws::only_valid_of_valid;
 pub use verdict::Verdict;

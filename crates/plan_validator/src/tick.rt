@@ -1,6 +1,7 @@
-ghost use Rattle.std.specs.Prelude.{◌≡◌, ℕ, ◌<◌, false, not, None, Some, slice_get, IfOk, IfSome, IsTrue, MatchOption};
+ghost use Rattle.std.specs.Prelude.{◌≡◌, ℕ, ◌<◌, List, false, not, None, Some, slice_get, IfOk, IfSome, IsTrue, MatchOption};
 ghost use Rattle.std.specs.Option.{option_copied};
 ghost use Rattle.std.specs.List.{list_all, find};
+ghost use Rattle.tp_spec.specs.declared.plan.Timed.{Timed};
 ghost use Rattle.tp_spec.specs.declared.problem.Problem.{Problem as Ground};
 ghost use Rattle.tp_spec.specs.Items.{after, invariants, own};
 ghost use Rattle.tp_spec.specs.Lists.{each_pair};
@@ -11,6 +12,7 @@ ghost use Rattle.world_state.specs.View.{meaning, IsStateOf};
 ghost use Rattle.world_state.specs.Happenings.{is_item_of, same_item};
 ghost use Rattle.snap_actions.specs.Tables.{AreTables};
 ghost use Rattle.plan_validator.specs.Verdicts.{pairs, is_broken_in};
+ghost use Rattle.plan_validator.specs.Watched.{AreRunning};
 ghost use Rattle.plan_validator.specs.Course.{is_act_broken, lesser as lesser_of, IsJudged, IsFirstBroken, IsFirstOver};
 
 use crate::verdict::Verdict;
@@ -27,23 +29,24 @@ pub(crate) enum Judged {
 }
 
 /// Judges one happening: whether two items interfere, whether each item's own conditions hold before, whether there is a
-/// state after, and whether the invariants of what runs hold in it.
+/// state after, and whether the invariants of what runs hold in it. Of the acts it is passed those that run. What it
+/// answers is so for each plan in which this is what stands at the tick, what runs, and the state before.
 ///
 /// PDDL 2.1, section 6 (plan validity).
 pub(crate) fn judge_tick(
     alloc: Global,
     problem: &Problem,
     tables: &Items,
-    acts: &[Timed],
+    running: &[Timed],
     tick: u64,
     here: &[Item],
     state: &State,
 ) -> Result<Judged, NoMemory>
     requires tables { AreTables problem.now tables.now }
-    requires here { here.now ≡ happening problem.now acts.now tick }
+    requires inside { IsTrue (list_all (is_item_of problem.now) here.now) }
+    requires different { IsTrue (each_pair (λ i j. not (same_item i j)) here.now) }
     requires of_problem { IsStateOf problem.now state.now }
-    requires before { state_before problem.now acts.now tick ≡ Some (meaning state.now) }
-    ensures { IfOk result (λ r. IsJudged problem.now acts.now tick r) }
+    ensures { IfOk result (λ r. (acts : List Timed) → here.now ≡ happening problem.now acts tick → AreRunning problem.now acts tick running.now → state_before problem.now acts tick ≡ Some (meaning state.now) → IsJudged problem.now acts tick r) }
 {
     if let Some((a, b)) = first_clash(tables, here) {
         return Ok(Judged::Fault(Verdict::Clash { tick, a, b }));
@@ -55,7 +58,7 @@ pub(crate) fn judge_tick(
         let fluent = fluent_over(alloc, problem, state, here)?;
         return Ok(Judged::Fault(Verdict::Overflow { tick, fluent }));
     };
-    match first_broken(problem, acts, tick, &next) {
+    match first_broken(problem, running, tick, &next) {
         Some(action) => Ok(Judged::Fault(Verdict::Broken { tick, action })),
         None => Ok(Judged::Passed(next)),
     }
@@ -104,7 +107,7 @@ fn first_unmet(problem: &Problem, state: &State, here: &[Item]) -> Option<Item>
 }
 
 /// The invariants of an action.
-fn invariants_of(problem: &Problem, action: u32) -> &[Cond]
+pub(crate) fn invariants_of(problem: &Problem, action: u32) -> &[Cond]
     ensures is { result.now ≡ invariants problem.now action }
     ensures shallow { IsTrue (list_all is_shallow result.now) }
 {
