@@ -21,7 +21,7 @@ use Rattle.ground_text.proofs.Members.{name_again, name_line_again, listed_ends,
 use Rattle.ground_text.proofs.Words.{good_cond, good_effect, cond_again, effect_again}
 
 -- two tests of all members
-both_hold : {A : Type 0} (p q : A → Bool) (xs : List A) → list_all p xs ≡ true → list_all q xs ≡ true → list_all (λ x. p x && q x) xs ≡ true
+pub both_hold : {A : Type 0} (p q : A → Bool) (xs : List A) → list_all p xs ≡ true → list_all q xs ≡ true → list_all (λ x. p x && q x) xs ≡ true
 both_hold p q [] h k = refl
 both_hold p q (x ∷ xs) h k =
     let a = and_parts _ _ h in
@@ -45,7 +45,8 @@ module _ (f n : ℕ) (small : f ≤ 4096) (few : n ≤ 256) where
   body_at : List ℕ → List ℕ → Action × List ℕ
   body_at name bytes = if first_is 105 bytes then instant_at name bytes else durative_at name bytes
 
-  record Good (kind : Kind) (a : Action) : Type 0 where
+  -- the parts of an action's test
+  pub record Good (kind : Kind) (a : Action) : Type 0 where
     pub shaped : is_kind kind a ≡ true
     pub start_conds : list_all (is_cond f n) a.start_conds ≡ true
     pub all_conds : list_all (is_cond f n) a.all_conds ≡ true
@@ -103,12 +104,12 @@ module _ (f n : ℕ) (small : f ≤ 4096) (few : n ≤ 256) where
   effects_each : (xs : List Effect) → are_effects f n xs ≡ true → list_all (is_effect f n) xs ≡ true
   effects_each xs h = (and_parts _ _ (and_parts _ _ h).0).1
 
-  pub good_action : Action → Bool
+  unfoldable pub good_action : Action → Bool
   good_action a = is_action f n a && is_kept_action a
 
-  pub action_again : (a : Action) (rest : List ℕ) → good_action a ≡ true → action_at (action_text a ++ rest) ≡ (a, rest)
-  unfolding good_action body_at action_at action_text
-  action_again a rest h =
+  pub good_parts : (a : Action) → good_action a ≡ true → (is_name a.name ≡ true) × Good a.kind a
+  unfolding good_action
+  good_parts a h =
       let p = and_parts _ _ h in
       let p6 = and_parts _ _ p.0 in
       let p5 = and_parts _ _ p6.0 in
@@ -119,24 +120,31 @@ module _ (f n : ℕ) (small : f ≤ 4096) (few : n ≤ 256) where
       let k4 = and_parts _ _ p.1 in
       let k3 = and_parts _ _ k4.0 in
       let k2 = and_parts _ _ k3.0 in
-      let k1 = and_parts _ _ k2.0 in
-      let good : Good a.kind a = record {
-        shaped = p1.1;
-        start_conds = p2.1;
-        all_conds = p3.1;
-        end_conds = p4.1;
-        start_effects = effects_each a.start_effects p5.1;
-        end_effects = effects_each a.end_effects p6.1;
-        kept_start_conds = k1.0;
-        kept_all_conds = k1.1;
-        kept_end_conds = k2.1;
-        kept_start_effects = k3.1;
-        kept_end_effects = k4.1;
-      } in
+      let k1 = and_parts _ _ k2.0 in (
+        p1.0,
+        record {
+          shaped = p1.1;
+          start_conds = p2.1;
+          all_conds = p3.1;
+          end_conds = p4.1;
+          start_effects = effects_each a.start_effects p5.1;
+          end_effects = effects_each a.end_effects p6.1;
+          kept_start_conds = k1.0;
+          kept_all_conds = k1.1;
+          kept_end_conds = k2.1;
+          kept_start_effects = k3.1;
+          kept_end_effects = k4.1;
+        },
+      )
+
+  pub action_again : (a : Action) (rest : List ℕ) → good_action a ≡ true → action_at (action_text a ++ rest) ≡ (a, rest)
+  unfolding body_at action_at action_text
+  action_again a rest h =
+      let good = good_parts a h in
       let shape : action_text a ++ rest ≡ codes "act " ++ (a.name ++ (10 ∷ (body_text a.kind a ++ rest))) = simp append_assoc in
       ap action_at shape
-      ∙ ap (λ (x : List ℕ × List ℕ). body_at x.0 x.1) (name_again a.name (body_text a.kind a ++ rest) p1.0)
-      ∙ body_again a.kind a rest good
+      ∙ ap (λ (x : List ℕ × List ℕ). body_at x.0 x.1) (name_again a.name (body_text a.kind a ++ rest) good.0)
+      ∙ body_again a.kind a rest good.1
 
 -- ---- timed items
 
@@ -183,7 +191,7 @@ good_deletes : (f : ℕ) (xs : List ℕ) → list_all (λ x. nat_lt x f) xs ≡ 
 good_deletes f [] h = refl
 good_deletes f (x ∷ xs) h = let p = and_parts _ _ h in and_from _ _ (and_from _ _ p.0 refl) (good_deletes f xs p.1)
 
-good_merged : (f : ℕ) (xs ys : List ℕ) → list_all (λ x. nat_lt x f) xs ≡ true → list_all (λ x. nat_lt x f) ys ≡ true → list_all (good_effect f 0) (merged xs ys) ≡ true
+pub good_merged : (f : ℕ) (xs ys : List ℕ) → list_all (λ x. nat_lt x f) xs ≡ true → list_all (λ x. nat_lt x f) ys ≡ true → list_all (good_effect f 0) (merged xs ys) ≡ true
 good_merged f [] ys h k = good_deletes f ys k
 good_merged f (x ∷ xs) [] h k = good_adds f (x ∷ xs) h
 good_merged f (x ∷ xs) (y ∷ ys) h k =
@@ -193,7 +201,7 @@ good_merged f (x ∷ xs) (y ∷ ys) h k =
     (and_from _ _ (and_from _ _ p.0 refl) (good_merged f xs (y ∷ ys) p.1 k))
     (and_from _ _ (and_from _ _ q.0 refl) (good_merged f (x ∷ xs) ys h q.1))
 
-pub good_timed : ℕ → TimedItem → Bool
+unfoldable pub good_timed : ℕ → TimedItem → Bool
 good_timed f t = is_timed f t && nat_lt t.tick (2 ^ 64)
 
 pub timed_again : (f : ℕ) → f ≤ 4096 → (t : TimedItem) (rest : List ℕ) → good_timed f t ≡ true → timed_at (timed_text t ++ rest) ≡ (t, rest)

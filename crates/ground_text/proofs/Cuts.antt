@@ -1,5 +1,5 @@
 -- What is read of the first lines of a text of names.
-use Rattle.std.proofs.Common.{◌≡◌, ℕ, zero, suc, ◌+◌, ◌-◌, ◌*◌, ◌/◌, ◌%◌, ◌^◌, ◌≤◌, ◌<◌, min, Bool, true, false, not, ◌&&◌, List, [], ◌∷◌, ◌++◌, length, drop, refl, sym, ap, subst, ◌∙◌, append_assoc, arith}
+use Rattle.std.proofs.Common.{◌≡◌, ℕ, zero, suc, ◌+◌, ◌-◌, ◌%◌, ◌^◌, ◌<◌, Bool, true, false, not, List, [], ◌∷◌, ◌++◌, length, refl, sym, ap, subst, ◌∙◌, append_assoc, arith}
 use Rattle.std.specs.Prelude.{decimal, codes, ◌==◌}
 use Rattle.std.specs.List.{list_all, flat_map}
 use Rattle.std.specs.Ordering.{is_lt, nat_cmp}
@@ -13,12 +13,11 @@ use Rattle.std.proofs.lemmas.Bool.Decides.{nat_tests}
 use Rattle.std.proofs.lemmas.Fmt.{decimal_by_steps}
 use Rattle.std.proofs.lemmas.List.Folds.{list_all-append}
 use Rattle.tp_spec.specs.Lists.{each_next}
-use Rattle.tp_spec.specs.WellFormed.{is_name, is_name_byte, are_words, name_before}
-use Rattle.ground_text.specs.Texts.{name_text, counted}
-use Rattle.ground_text.specs.Reading.{number_at, name_at, repeated_at, counted_at}
+use Rattle.tp_spec.specs.WellFormed.{is_name, are_words, name_before}
+use Rattle.ground_text.specs.Texts.{name_text}
+use Rattle.ground_text.specs.Reading.{name_at, repeated_at}
 use Rattle.ground_text.specs.Faults.{lines}
 use Rattle.ground_text.specs.Completion.{name_or_next, filled}
-use Rattle.ground_text.proofs.Numbers.{number_again}
 use Rattle.ground_text.proofs.Members.{is_plain, words_plain, name_again}
 
 -- ---- lines
@@ -59,7 +58,7 @@ decimal_inside n fits =
     (λ m ds big h. list_all-append is_inside ds ((48 + m % 10) ∷ []) ∙ and_from _ _ h (and_from _ _ (digit_inside (m % 10) (omega arith)) refl))
     n fits
 
-plain_inside : (x : List ℕ) → list_all is_plain x ≡ true → list_all is_inside x ≡ true
+pub plain_inside : (x : List ℕ) → list_all is_plain x ≡ true → list_all is_inside x ≡ true
 plain_inside [] h = refl
 plain_inside (c ∷ x) h =
     let p : (is_plain c ≡ true) × (list_all is_plain x ≡ true) = and_parts _ _ h in
@@ -111,14 +110,14 @@ filled_length before k [] = refl
 filled_length before zero (name ∷ names) = ap suc (filled_length (before ++ 33 ∷ []) zero names)
 filled_length before (suc k) (name ∷ names) = ap suc (filled_length (name_or_next before name) k names)
 
-next_words : (wanted : Bool) (name : List ℕ) → are_words wanted name ≡ true → are_words wanted (name ++ 33 ∷ []) ≡ true
+pub next_words : (wanted : Bool) (name : List ℕ) → are_words wanted name ≡ true → are_words wanted (name ++ 33 ∷ []) ≡ true
 next_words wanted [] h = refl
 next_words wanted (b ∷ rest) h = by_space (b == 32) refl (λ is k. next_words is rest k) where
   by_space : (is : Bool) → (b == 32) ≡ is → ((wanted : Bool) → are_words wanted rest ≡ true → are_words wanted (rest ++ 33 ∷ []) ≡ true) → are_words wanted (b ∷ (rest ++ 33 ∷ [])) ≡ true
   by_space true e next = let k = rw e at h in let p = and_parts _ _ k in rw e (and_from _ _ p.0 (next true p.1))
   by_space false e next = let k = rw e at h in let p = and_parts _ _ k in rw e (and_from _ _ p.0 (next false p.1))
 
-before_next : (name : List ℕ) → name_before name (name ++ 33 ∷ []) ≡ true
+pub before_next : (name : List ℕ) → name_before name (name ++ 33 ∷ []) ≡ true
 before_next [] = refl
 before_next (c ∷ name) = ap (λ (o : Ordering). is_lt (ordering_then o (slice_cmp nat_cmp name (name ++ 33 ∷ [])))) (sym (nat_cmp_is c c Equal refl)) ∙ before_next name
 
@@ -171,59 +170,3 @@ names_same before (suc k) (name ∷ names) rest other h e =
     ∙ name_line name (flat_map name_text (filled name (cut k names))) other k p.0
     ∙ ap (λ (y : List ℕ). name ++ (10 ∷ y)) (names_same name k names rest other p.1 (subst (λ (n : ℕ). lines n other ≡ lines n rest) left e))
     ∙ sym (name_line name (flat_map name_text names) rest k p.0)
-
--- ---- a section: the line of a count, and as many names
-
--- what is read of the first k lines of a section
-abbrev pub cut_section : ℕ → List (List ℕ) → List (List ℕ)
-cut_section zero names = []
-cut_section (suc k) names = cut k names
-
-abbrev pub section : List ℕ → List (List ℕ) → List ℕ → List ℕ
-section word names rest = word ++ (counted name_text names ++ rest)
-
-count_line : (word : List ℕ) (names : List (List ℕ)) (rest : List ℕ) (k : ℕ) → list_all is_inside word ≡ true → length names < 2 ^ 64
-    → lines (suc k) (section word names rest) ≡ word ++ (decimal (length names) ++ (10 ∷ lines k (flat_map name_text names ++ rest)))
-unfolding counted
-count_line word names rest k inside few =
-    let shape : section word names rest ≡ (word ++ decimal (length names)) ++ (10 ∷ (flat_map name_text names ++ rest)) = simp append_assoc in
-    ap (lines (suc k)) shape
-    ∙ line_first (word ++ decimal (length names)) _ k (list_all-append is_inside word (decimal (length names)) ∙ and_from _ _ inside (decimal_inside (length names) few))
-    ∙ append_assoc word (decimal (length names)) _
-
-pub section_cut : (word : List ℕ) (skipped most k : ℕ) (names : List (List ℕ)) (rest : List ℕ)
-    → list_all is_inside word ≡ true → ((t : List ℕ) → drop skipped (word ++ t) ≡ t) → most < 2 ^ 32 → length names ≤ most → list_all is_name names ≡ true
-    → counted_at name_at most (drop skipped (lines k (section word names rest))) ≡ (cut_section k names, lines (k - suc (length names)) rest)
-unfolding counted_at number_at
-section_cut word skipped most zero names rest inside skips fits few h =
-    let none : 0 ≡ 0 - suc (length names) = omega arith in
-    let count : min 0 most ≡ 0 = omega arith in
-    nothing skipped
-    ∙ ap (λ (n : ℕ). repeated_at name_at n []) count
-    ∙ ap (λ (n : ℕ). ([], lines n rest)) none where
-      nothing : (n : ℕ) → counted_at name_at most (drop n []) ≡ repeated_at name_at (min 0 most) []
-      nothing zero = refl
-      nothing (suc n) = refl
-section_cut word skipped most (suc k) names rest inside skips fits few h =
-    let left : k - length names ≡ suc k - suc (length names) = omega arith in
-    let least : min (length names) most ≡ length names = omega arith in
-    let behind = lines k (flat_map name_text names ++ rest) in
-    ap (λ (t : List ℕ). counted_at name_at most (drop skipped t)) (count_line word names rest k inside (omega arith))
-    ∙ ap (counted_at name_at most) (skips (decimal (length names) ++ (10 ∷ behind)))
-    ∙ ap (λ (n : ℕ × List ℕ). repeated_at name_at (min n.0 most) (drop 1 n.1)) (number_again (length names) (10 ∷ behind) (omega arith) refl)
-    ∙ ap (λ (n : ℕ). repeated_at name_at n behind) least
-    ∙ names_cut k names rest h
-    ∙ ap (λ (n : ℕ). (cut k names, lines n rest)) left
-
-pub section_same : (word : List ℕ) (k : ℕ) (names : List (List ℕ)) (rest other : List ℕ)
-    → list_all is_inside word ≡ true → length names < 2 ^ 64 → list_all is_name names ≡ true
-    → lines (k - suc (length names)) other ≡ lines (k - suc (length names)) rest
-    → lines k (section word (filled [] (cut_section k names)) other) ≡ lines k (section word names rest)
-section_same word zero names rest other inside few h e = refl
-section_same word (suc k) names rest other inside few h e =
-    let left : suc k - suc (length names) ≡ k - length names = omega arith in
-    let long = filled_length [] k names in
-    count_line word (filled [] (cut k names)) other k inside (omega (arith, long))
-    ∙ ap (λ (n : ℕ). word ++ (decimal n ++ (10 ∷ lines k (flat_map name_text (filled [] (cut k names)) ++ other)))) long
-    ∙ ap (λ (y : List ℕ). word ++ (decimal (length names) ++ (10 ∷ y))) (names_same [] k names rest other h (subst (λ (n : ℕ). lines n other ≡ lines n rest) left e))
-    ∙ sym (count_line word names rest k inside few)

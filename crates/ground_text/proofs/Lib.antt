@@ -7,6 +7,16 @@ pub mod Merging
 pub mod Regroup
 pub mod Tested
 pub mod LinesLen
+pub mod Filled
+pub mod KeptRead
 pub mod Cuts
+pub mod Picks
+pub mod Counts
+pub mod Acts
+pub mod FilledActions
+pub mod Naming
+pub mod Timings
+pub mod Tail
 pub mod Fronts
 pub mod Told
+pub mod FilledNames

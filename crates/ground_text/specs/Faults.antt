@@ -1,5 +1,5 @@
 -- Which line of a text is the first that no ground text has there.
-use Rattle.std.specs.Prelude.{◌≡◌, ℕ, zero, suc, ◌+◌, ◌≤◌, Bool, true, false, ◌==◌, List, [], ◌∷◌, length, IsTrue, if◌then◌else◌}
+use Rattle.std.specs.Prelude.{◌≡◌, ℕ, zero, suc, Bool, true, false, ◌==◌, List, [], ◌∷◌, IsTrue, if◌then◌else◌}
 use Rattle.tp_spec.specs.WellFormed.{Ground}
 use Rattle.ground_text.specs.Texts.{problem_text}
 use Rattle.ground_text.specs.Kept.{IsProblem}
@@ -28,14 +28,9 @@ pub record IsFaultBehind (n : ℕ) (text : List ℕ) : Type 0 where
   pub some : (p : Ground) × IsProblem p × Begins n (problem_text p) text
   pub none : (p : Ground) → IsProblem p → Begins (suc n) (problem_text p) text → ⊥
 
--- how many lines the text of a problem has up to its last fluent
-abbrev pub names_end : Ground → ℕ
-names_end p = 4 + length p.facts + length p.fluents
-
--- The number of the line of the fault, from 1. It is 0 where the fault stands behind the names: some ground text
--- begins with as many lines of the text as that one has up to its last fluent, or more.
+-- The number of the line of the fault, from 1.
 abbrev pub Tells : ℕ → List ℕ → Type 0
-Tells zero text = (p : Ground) × IsProblem p × ((n : ℕ) × (names_end p ≤ n) × Begins n (problem_text p) text)
+Tells zero text = ⊥
 Tells (suc n) text = IsFaultBehind n text
 
 abbrev pub TellsFault : LineFault → List ℕ → Type 0

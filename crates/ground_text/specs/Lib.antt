@@ -6,3 +6,4 @@ pub mod Tests
 pub mod Examples
 pub mod Faults
 pub mod Completion
+pub mod Filling

@@ -119,6 +119,16 @@ fn ascii(alloc: Global, line: &[u8]) -> Result<String, AllocError>
     Ok(text)
 }
 
+/// A copy of a text as a name.
+pub fn name_of(alloc: Global, text: &str) -> Result<Name, AllocError>
+    ensures { IfOk result (λ n. n ≡ text.now) }
+{
+    match Name::of(alloc, text) {
+        Ok(name) => Ok(name),
+        Err(NoMemory) => Err(AllocError),
+    }
+}
+
 /// The next line as a name, and what stands behind it.
 #[tactic(auto, unfolding(crate::specs::Reading::name_at))]
 pub fn name(alloc: Global, bytes: &[u8]) -> Result<(Name, &[u8]), AllocError>
@@ -127,8 +137,6 @@ pub fn name(alloc: Global, bytes: &[u8]) -> Result<(Name, &[u8]), AllocError>
     let len = line_len(bytes);
     let (line, _) = bytes.split_at(len);
     let text = ascii(alloc, line)?;
-    match Name::of(alloc, text.as_str()) {
-        Ok(name) => Ok((name, skip(bytes, len + 1))),
-        Err(NoMemory) => Err(AllocError),
-    }
+    let name = name_of(alloc, text.as_str())?;
+    Ok((name, skip(bytes, len + 1)))
 }

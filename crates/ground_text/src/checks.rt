@@ -140,7 +140,8 @@ fn are_effects(facts: usize, fluents: usize, effects: &[Effect]) -> bool
     effects.len() <= 4096 && each_effect(facts, fluents, effects) && are_apart(effects)
 }
 
-fn is_empty<T>(items: &[T]) -> bool
+/// Whether there is no item.
+pub fn is_empty<T>(items: &[T]) -> bool
     ensures { result ≡ is_empty_of items.now }
 {
     match items {

@@ -5,6 +5,7 @@ mod bytes;
 mod checks;
 mod completion;
 mod fault;
+mod filling;
 mod laws;
 mod lines;
 mod names;
@@ -13,6 +14,7 @@ mod reading;
 mod rules;
 mod search;
 mod sections;
+mod unwritten;
 mod writing;
 
 pub use fault::LineFault;

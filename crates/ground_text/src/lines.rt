@@ -11,7 +11,7 @@ pub fn same_bytes(one: &[u8], other: &[u8]) -> bool
 }
 
 /// How many bytes the first lines have, and whether there are as many.
-fn lines_len(text: &[u8], count: u32) -> (usize, bool)
+fn lines_len(text: &[u8], count: usize) -> (usize, bool)
     ensures len { result.0 ≡ lines_len_of count text.now }
     ensures within { result.0 ≤ length text.now }
     ensures all { result.1 ≡ lines_stand count text.now }
@@ -31,7 +31,7 @@ fn lines_len(text: &[u8], count: u32) -> (usize, bool)
 }
 
 /// The first lines with their line feeds, or all bytes where there are fewer, and whether there are as many.
-pub fn first_lines(text: &[u8], count: u32) -> (&[u8], bool)
+pub fn first_lines(text: &[u8], count: usize) -> (&[u8], bool)
     ensures front { result.0.now ≡ lines count text.now }
     ensures all { result.1 ≡ has_lines count text.now }
 {

@@ -13,16 +13,15 @@ use crate::writing::write_problem;
 use std::alloc::Global;
 use tp_spec::Problem;
 
-/// The problem whose canonical text this is. `Line` where it is the text of no problem: the
-/// number, from 1, of the first line such that no ground text begins with the lines up to it, or 0 where
-/// that line stands behind the names of facts and fluents: only lines up to these are told today. A last
-/// piece without a line feed is no line, so it is the fault itself where the lines before it fit.
+/// The problem whose canonical text this is. `Line` where it is the text of no problem: the number, from 1, of the first
+/// line such that no ground text begins with the lines up to it. A last piece without a line feed is no line, so it is
+/// the fault itself where the lines before it fit; so is the line behind `end` where more follows.
 ///
 /// What is read is written again and compared with the text.
 pub fn read_problem_text(alloc: Global, text: &[u8]) -> Result<Problem, LineFault>
     // What is read has this text.
     ensures reads { IfOk result (λ p. text.now ≡ problem_text p) }
-    // A line that is told is the first that no ground text has there; one behind the names is told as 0.
+    // A line that is told is the first that no ground text has there.
     ensures line { IfErr result (λ fault. TellsFault fault text.now) }
     // Each problem that has this text is the one that is read.
     ensures only { (p : Ground) → IsProblem p → text.now ≡ problem_text p → GivesOnly result p }

@@ -8,7 +8,8 @@ use crate::names::{all_below, are_names, names_rise, numbers_rise, told_apart};
 use crate::sections::Parts;
 use tp_spec::{Action, Cond, Name, Problem, TimedItem};
 
-fn is_scale(scale: u32) -> bool
+/// Whether a scale is one of the four.
+pub fn is_scale(scale: u32) -> bool
     ensures { result ≡ is_scale_of scale }
 {
     scale == 1 || scale == 10 || scale == 100 || scale == 1000
@@ -52,7 +53,8 @@ fn names_hold(parts: &Parts) -> bool
         && are_few_names(256, parts.fluents.as_slice())
 }
 
-fn items_hold(parts: &Parts) -> bool
+/// Whether actions and timed items keep the rules of a problem.
+pub fn items_hold(parts: &Parts) -> bool
     ensures { result ≡ items_hold_of (ground_of parts.now) }
 {
     let facts = parts.facts.as_slice().len();
@@ -62,7 +64,8 @@ fn items_hold(parts: &Parts) -> bool
         && are_timed(facts, parts.timed.as_slice())
 }
 
-fn states_hold(parts: &Parts) -> bool
+/// Whether the start and the goal keep the rules of a problem.
+pub fn states_hold(parts: &Parts) -> bool
     ensures { result ≡ states_hold_of (ground_of parts.now) }
 {
     let facts = parts.facts.as_slice().len();

@@ -9,7 +9,7 @@ use tp_spec::{
 };
 
 /// Writes a number behind what is there.
-fn put_number(alloc: Global, out: &mut Vec<u8>, number: u64) -> Result<(), AllocError>
+pub fn put_number(alloc: Global, out: &mut Vec<u8>, number: u64) -> Result<(), AllocError>
     ensures { OnOk result (out.new.items ≡ out.old.items ++ decimal_of number) }
 {
     let text = format!(in alloc; "{number}")?;
@@ -363,7 +363,7 @@ fn put_timed_items(alloc: Global, out: &mut Vec<u8>, items: &[TimedItem]) -> Res
 
 /// The first two lines, but for the end of the second.
 #[tactic(auto, unfolding(crate::specs::Texts::header_text))]
-fn put_header(alloc: Global, out: &mut Vec<u8>, scale: u32) -> Result<(), AllocError>
+pub fn put_header(alloc: Global, out: &mut Vec<u8>, scale: u32) -> Result<(), AllocError>
     ensures { OnOk result (out.new.items ≡ out.old.items ++ header_text scale) }
 {
     out.extend_from_slice(b"ground 1\nscale ")?;
@@ -383,25 +383,36 @@ fn put_names_of(alloc: Global, out: &mut Vec<u8>, problem: &Problem) -> Result<(
 }
 
 /// The lines of the actions and of the timed items.
-fn put_items_of(alloc: Global, out: &mut Vec<u8>, problem: &Problem) -> Result<(), AllocError>
-    ensures { OnOk result (out.new.items ≡ out.old.items ++ (codes "actions " ++ counted action_text problem.now.actions ++ codes "timed " ++ counted timed_text problem.now.timed)) }
+pub fn put_items(
+    alloc: Global,
+    out: &mut Vec<u8>,
+    actions: &[Action],
+    timed: &[TimedItem],
+) -> Result<(), AllocError>
+    ensures { OnOk result (out.new.items ≡ out.old.items ++ (codes "actions " ++ counted action_text actions.now ++ codes "timed " ++ counted timed_text timed.now)) }
 {
     out.extend_from_slice(b"actions ")?;
-    put_actions(alloc, out, problem.actions.as_slice())?;
+    put_actions(alloc, out, actions)?;
     out.extend_from_slice(b"timed ")?;
-    put_timed_items(alloc, out, problem.timed.as_slice())
+    put_timed_items(alloc, out, timed)
 }
 
 /// The lines of what holds at the start and of the goal.
-fn put_states_of(alloc: Global, out: &mut Vec<u8>, problem: &Problem) -> Result<(), AllocError>
-    ensures { OnOk result (out.new.items ≡ out.old.items ++ (codes "init" ++ listed decimal_of problem.now.init ++ codes "\nvalues" ++ listed value_text problem.now.values ++ codes "\ngoal" ++ listed cond_text problem.now.goal)) }
+pub fn put_states(
+    alloc: Global,
+    out: &mut Vec<u8>,
+    init: &[u32],
+    values: &[Option<i64>],
+    goal: &[Cond],
+) -> Result<(), AllocError>
+    ensures { OnOk result (out.new.items ≡ out.old.items ++ (codes "init" ++ listed decimal_of init.now ++ codes "\nvalues" ++ listed value_text values.now ++ codes "\ngoal" ++ listed cond_text goal.now)) }
 {
     out.extend_from_slice(b"init")?;
-    put_indices(alloc, out, problem.init.as_slice())?;
+    put_indices(alloc, out, init)?;
     out.extend_from_slice(b"\nvalues")?;
-    put_values(alloc, out, problem.values.as_slice())?;
+    put_values(alloc, out, values)?;
     out.extend_from_slice(b"\ngoal")?;
-    put_conds(alloc, out, problem.goal.as_slice())
+    put_conds(alloc, out, goal)
 }
 
 /// The lines of a problem.
@@ -410,8 +421,19 @@ fn put_problem(alloc: Global, out: &mut Vec<u8>, problem: &Problem) -> Result<()
     ensures { OnOk result (out.new.items ≡ out.old.items ++ problem_text problem.now) }
 {
     put_names_of(alloc, out, problem)?;
-    put_items_of(alloc, out, problem)?;
-    put_states_of(alloc, out, problem)?;
+    put_items(
+        alloc,
+        out,
+        problem.actions.as_slice(),
+        problem.timed.as_slice(),
+    )?;
+    put_states(
+        alloc,
+        out,
+        problem.init.as_slice(),
+        problem.values.as_slice(),
+        problem.goal.as_slice(),
+    )?;
     out.extend_from_slice(b"\nend\n")
 }
 

@@ -1,4 +1,4 @@
-use Rattle.std.proofs.Common.{◌≡◌, ◌∙◌, ap, take, List, ℕ}
+use Rattle.std.proofs.Common.{◌∙◌, ap, take, ℕ}
 use Rattle.ground_text.proofs.LinesLen.{stand, front}
 use Rattle.ground_text.proofs.lines.first_lines.Goals as goal
 

@@ -1,25 +1,35 @@
-use Rattle.std.proofs.Common.{◌≡◌, Bool, refl, sym, ap, ◌∙◌}
+use Rattle.std.proofs.Common.{refl, sym, ◌∙◌}
 use Rattle.std.proofs.lemmas.Result.{IfOk-weaker}
-use Rattle.ground_text.specs.Parts.{ground_of}
-use Rattle.ground_text.proofs.Told.{begun, unformed, not_begun}
+use Rattle.ground_text.specs.Texts.{problem_text}
+use Rattle.ground_text.specs.Filling.{filled_ground}
+use Rattle.ground_text.proofs.FilledNames.{begins_bytes, bytes_begin}
+use Rattle.ground_text.proofs.Told.{begun, unformed, not_begun, unfit}
 use Rattle.ground_text.proofs.search.begins_some.Goals as goal
 
-pub returns-then-not-is_well_formed-clause-no : goal.returns-then-not-is_well_formed-clause-no
-returns-then-not-is_well_formed-clause-no c = λ e.
-    let read = ground_of c.in_ok-parts.parts in
-    unformed c.args.count c.args.text.now _ read read c.first_lines-all.ensures.front c.in_ok-parts.ensures refl (sym c.is_well_formed.ensures ∙ c.if-not-is_well_formed.true)
+pub returns-in-None-clause-no : goal.returns-in-None-clause-no
+returns-in-None-clause-no c = λ e. unfit c.args.count c.args.text.now _ c.first_lines-all.ensures.front (rw c.in-None.is at c.in_ok-completion.ensures)
 
-pub returns-clause-yes : goal.returns-clause-yes
-returns-clause-yes c =
-    let read = ground_of c.in_ok-parts.parts in
-    IfOk-weaker c.begins_with.result _ _
-    (λ is fits yes. begun c.args.count c.args.text.now _ read _ c.first_lines-all.ensures.front c.in_ok-parts.ensures c.problem_of-problem.ensures
-    (sym c.is_well_formed.ensures ∙ c.if-not-is_well_formed.false) (sym c.first_lines-all.ensures.all ∙ c.if-not-all.false) (fits yes))
-    c.begins_with.ensures.yes
+pub returns-then-not-formed-clause-no : goal.returns-then-not-formed-clause-no
+returns-then-not-formed-clause-no c = λ e.
+    let done = rw c.in-Some.is at c.in_ok-completion.ensures in
+    unformed c.args.count c.args.text.now _ (filled_ground c.in-Some.parts) c.first_lines-all.ensures.front done.0 (sym c.in_ok-formed-in-Some.ensures ∙ c.if-not-formed.true)
 
-pub returns-clause-no : goal.returns-clause-no
-returns-clause-no c =
-    let read = ground_of c.in_ok-parts.parts in
-    IfOk-weaker c.begins_with.result _ _
-    (λ is fits none. not_begun c.args.count c.args.text.now _ read _ c.first_lines-all.ensures.front c.in_ok-parts.ensures c.problem_of-problem.ensures is fits none)
-    c.begins_with.ensures.no
+pub returns-else-not-formed-clause-yes : goal.returns-else-not-formed-clause-yes
+returns-else-not-formed-clause-yes c =
+    let read = filled_ground c.in-Some.parts in
+    let done = rw c.in-Some.is at c.in_ok-completion.ensures in
+    let has = sym c.first_lines-all.ensures.all ∙ c.if-not-all.false in
+    IfOk-weaker c.filled_begins.result _ _
+    (λ is fits yes. begun c.args.count c.args.text.now _ read c.first_lines-all.ensures.front done.0 read refl
+    (sym c.in_ok-formed-in-Some.ensures ∙ c.if-not-formed.false) done.1 has
+    (begins_bytes c.args.count (problem_text read) c.args.text.now _ c.first_lines-all.ensures.front has (fits yes)))
+    c.filled_begins.ensures.yes
+
+pub returns-else-not-formed-clause-no : goal.returns-else-not-formed-clause-no
+returns-else-not-formed-clause-no c =
+    let read = filled_ground c.in-Some.parts in
+    let done = rw c.in-Some.is at c.in_ok-completion.ensures in
+    IfOk-weaker c.filled_begins.result _ _
+    (λ is fits none. not_begun c.args.count c.args.text.now _ read c.first_lines-all.ensures.front done.0 read refl is
+    (λ s. fits (bytes_begin c.args.count (problem_text read) _ s)) none)
+    c.filled_begins.ensures.no

@@ -1,4 +1,4 @@
-use Rattle.std.proofs.Common.{◌≤◌, ◌<◌, arith}
+use Rattle.std.proofs.Common.{arith}
 use Rattle.ground_text.proofs.Told.{beyond, begun_none}
 use Rattle.ground_text.proofs.search.last_begun.Goals as goal
 
