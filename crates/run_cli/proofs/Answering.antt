@@ -30,10 +30,10 @@ not_five status below is = omega (arith, below, is)
 four_five : (status : ℕ) → status ≡ 4 → status ≡ 5 → ⊥
 four_five status is other = omega (arith, is, other)
 
-module _ (told : Contents) (ground_name plan_name : List ℕ) (limits : Limits) (faults faults' : ℕ) where
+module _ (told : Contents) (ground_name plan_name : List ℕ) (limits : Limits) (faults faults' calls calls' : ℕ) where
   -- the ground file is loaded, and the plan file is too long
   pub plan_too_long : (status : ℕ) (line text : List ℕ) → Holds told ground_name text → HoldsTooMany told plan_name
-      → status ≡ 4 → line ≡ codes "refused plan 1048576 FileTooLong\n" → IsAnswer told ground_name plan_name limits faults faults' status line
+      → status ≡ 4 → line ≡ codes "refused plan 1048576 FileTooLong\n" → IsAnswer told ground_name plan_name limits faults faults' calls calls' status line
   plan_too_long status line text loaded long is said = record {
     statuses = inr (inl is);
     judged = λ below. absurd (not_four status below is);
@@ -43,10 +43,10 @@ module _ (told : Contents) (ground_name plan_name : List ℕ) (limits : Limits) 
 
   -- both files are loaded
   pub loaded_answer : (status : ℕ) (line text bytes : List ℕ) → AreLoaded told ground_name plan_name text bytes
-      → IsTextAnswer limits text bytes status line → IsAnswer told ground_name plan_name limits faults faults' status line
+      → IsTextAnswer limits text bytes status line → IsAnswer told ground_name plan_name limits faults faults' calls calls' status line
   loaded_answer status line text bytes loaded (inl w) = of_problem w.problem w.formed (subst (λ (t : List ℕ). AreLoaded told ground_name plan_name t bytes) w.text_is loaded) w.answer where
     of_problem : (p : Problem) → IsWellFormed p → AreLoaded told ground_name plan_name (problem_text p) bytes → IsPlanAnswer p limits bytes status line
-        → IsAnswer told ground_name plan_name limits faults faults' status line
+        → IsAnswer told ground_name plan_name limits faults faults' calls calls' status line
     of_problem p formed loaded (inl judges) =
         let below : status < 2 = subst (λ (n : ℕ). n < 2) (sym judges.status_is) (verdict_below judges.verdict) in
         record {

@@ -1,6 +1,7 @@
 pub mod OneWorker
 pub mod OneJob
 pub mod Solved
+pub mod Stops
 pub mod Outcomes
 pub mod LiveMarks
 pub mod Bounded
@@ -9,4 +10,4 @@ pub mod Numerals
 pub mod Dashes
 pub mod FirstFaults
 pub mod Plans
-pub mod Refusing
+pub mod Asking

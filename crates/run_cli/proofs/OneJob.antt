@@ -1,10 +1,10 @@
 -- A search by one worker: each step keeps the history busy, and comes to an end.
-use Rattle.std.proofs.Common.{◌≡◌, refl, sym, ap, subst, ◌∙◌, ℕ, suc, ◌+◌, ◌-◌, ◌<◌, ◌≤◌, ◌⊎◌, inl, inr, ◌==◌, max, Bool, true, false, not, ◌&&◌, ◌||◌, cond, List, [], ◌∷◌, ◌++◌, length, map, if◌then◌else◌, Some, None, arith, IsTrue}
+use Rattle.std.proofs.Common.{◌≡◌, refl, sym, ap, subst, ◌∙◌, ℕ, suc, ◌+◌, ◌-◌, ◌<◌, ◌≤◌, ◌⊎◌, inl, inr, ◌==◌, max, Bool, true, false, not, ◌&&◌, ◌||◌, cond, List, [], ◌∷◌, ◌++◌, length, map, if◌then◌else◌, Some, None, arith, IsTrue, append_assoc}
 use Rattle.std.specs.List.{list_all, list_any, filter}
 use Rattle.std.proofs.lemmas.Bool.{and_parts, false≢true, eq-eqb}
 use Rattle.std.proofs.lemmas.List.{length-map, length-append}
 use Rattle.std.proofs.lemmas.List.Folds.{list_any-append}
-use Rattle.tp_spec.specs.declared.event.Cause.{Cause}
+use Rattle.tp_spec.specs.declared.event.Cause.TheVariants.{Memory}
 use Rattle.tp_spec.specs.declared.event.Event.{Event}
 use Rattle.tp_spec.specs.declared.event.Event.TheVariants.{Tick, Take, Expand, Publish, Limit, Exhaust, Halt}
 use Rattle.tp_spec.specs.declared.plan.Limits.{Limits}
@@ -25,7 +25,8 @@ use Rattle.open_tree.specs.Views.{JobView, SproutsView, TreeView}
 use Rattle.open_tree.proofs.Held.{end-append, legal-parts}
 use Rattle.open_tree.proofs.Runs.{tree-of, in-filter, taken-id}
 use Rattle.open_tree.proofs.Standing.{over-of}
-use Rattle.run_cli.specs.OneWorker.{IsRested, HasTaken, IsSearching, IsHolding, IsGoing, GoesOn, IsHalted, HasSearched, left_of}
+use Rattle.run_cli.specs.OneWorker.{IsRested, HasTaken, IsSearching, IsHolding, IsGoing, GoesOn, HasSearched, left_of}
+use Rattle.run_cli.specs.Outcomes.{HasResult, status_of}
 use Rattle.run_cli.proofs.OneWorker.{taken, expanded, merge-busy, nodes-after, same}
 
 pub searching-first : (p : Problem) (l : Limits) → IsPlain p → IsWholeRun p l [] → IsSearching p l []
@@ -162,19 +163,31 @@ goes-on p l h new r job marks k whole e = record {
   few : m.made + length marks ≤ suc (max 1 l.nodes)
   few = let b : m.made + length marks ≤ max 1 l.nodes = subst (λ x. x.made ≤ max 1 l.nodes) state bound in omega (arith, b)
 
-pub halted : (l : Limits) (h new : List Event) (cause : Cause) → new ≡ h ++ Halt cause ∷ [] → HasSearched l new
-halted l h new cause e = record {
-  outcome = ap has_outcome e ∙ list_any-append is_outcome h (Halt cause ∷ []) ∙ or-true (has_outcome h);
-  busy = inl (record { front = h; cause = cause; is = e });
+pub halted : (l : Limits) (h new : List Event) → new ≡ h ++ Halt Memory ∷ [] → HasSearched l new
+halted l h new e = record {
+  outcome = ap has_outcome e ∙ list_any-append is_outcome h (Halt Memory ∷ []) ∙ or-true (has_outcome h);
+  stopped = inl (record { front = h; is = e });
 } where
   or-true : (b : Bool) → (b || true) ≡ true
   or-true true = refl
   or-true false = refl
 
+-- the last of these events is a result
+ends-with : (front : List Event) (last : Event) (new : List Event) → new ≡ front ++ last ∷ [] → status_of last < 3 → HasResult new
+ends-with front last new e below = record { status = status_of last; below = below; ends = record { front = front; last = last; is = e; gives = refl } }
+
 pub ended : (p : Problem) (l : Limits) (h new : List Event) (r : ℕ) (s : SproutsView) → IsHolding p l h s.job → EndsSearch h new 1 r s → HasSearched l new
-ended p l h new r s k g = record { outcome = g.outcome; busy = inr (subst (IsBusy l 1) (sym g.grown) (by_ending g.events g.ending)) } where
+ended p l h new r s k g = record { outcome = g.outcome; stopped = inr (by_result g.events g.ending g.grown, subst (IsBusy l 1) (sym g.grown) (by_ending g.events g.ending)) } where
   id : ℕ
   id = s.job.id
+
+  by_result : (events : List Event) → IsEnding 1 s events → new ≡ h ++ Tick 1 r ∷ events → HasResult new
+  by_result events (inl e) is = ends-with (h ++ Tick 1 r ∷ Expand 1 id s.marks ∷ []) Exhaust new
+      (is ∙ ap (λ x. h ++ Tick 1 r ∷ x) e ∙ sym (append_assoc h (Tick 1 r ∷ Expand 1 id s.marks ∷ []) (Exhaust ∷ []))) (omega arith)
+  by_result events (inr (inl (plan, e))) is = ends-with (h ++ Tick 1 r ∷ []) (Publish 1 id plan) new
+      (is ∙ ap (λ x. h ++ Tick 1 r ∷ x) e ∙ sym (append_assoc h (Tick 1 r ∷ []) (Publish 1 id plan ∷ []))) (omega arith)
+  by_result events (inr (inr (made, e))) is = ends-with (h ++ Tick 1 r ∷ []) (Limit 1 id made (length s.marks)) new
+      (is ∙ ap (λ x. h ++ Tick 1 r ∷ x) e ∙ sym (append_assoc h (Tick 1 r ∷ []) (Limit 1 id made (length s.marks) ∷ []))) (omega arith)
 
   by_ending : (events : List Event) → IsEnding 1 s events → IsBusy l 1 (h ++ Tick 1 r ∷ events)
   by_ending events (inl e) = subst (λ x. IsBusy l 1 (h ++ Tick 1 r ∷ x)) (sym e) (merge-busy l h r id (Expand 1 id s.marks) (Exhaust ∷ []) k.taken refl (same id) refl)

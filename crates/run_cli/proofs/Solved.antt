@@ -1,8 +1,9 @@
 -- What stands at the end of a search.
-use Rattle.std.proofs.Common.{◌≡◌, refl, sym, ap, subst, ◌∙◌, ℕ, ◌<◌, ◌⊎◌, inl, inr, Option, Some, None, IfSome, false, List, [], ◌∷◌, ◌++◌, fold, arith}
+use Rattle.std.proofs.Common.{◌≡◌, refl, sym, ap, subst, ◌∙◌, ℕ, ◌<◌, inl, inr, Option, Some, None, IfSome, false, List, [], ◌∷◌, ◌++◌, fold, length, length-append, arith}
 use Rattle.std.specs.List.{flat_map}
 use Rattle.std.proofs.lemmas.Bool.{false≢true}
 use Rattle.std.proofs.lemmas.List.Sums.{fold-append}
+use Rattle.tp_spec.specs.declared.event.Cause.TheVariants.{Memory}
 use Rattle.tp_spec.specs.declared.event.Event.{Event}
 use Rattle.tp_spec.specs.declared.event.Event.TheVariants.{Tick, Drop, Dispatch, Take, Expand, Publish, Limit, Exhaust, Halt}
 use Rattle.tp_spec.specs.declared.plan.Limits.{Limits}
@@ -16,7 +17,7 @@ use Rattle.open_tree.specs.Charter.{SameCharter}
 use Rattle.open_tree.specs.Turns.{IsTold}
 use Rattle.open_tree.specs.Views.{TreeView}
 use Rattle.run_cli.specs.OneWorker.{HasSearched}
-use Rattle.run_cli.specs.Solving.{status_of, EndsAs}
+use Rattle.run_cli.specs.Outcomes.{status_of, EndsAs, HasNoResult, HasStopped}
 
 -- the status that the last of these events gives
 abbrev last_status : List Event → ℕ
@@ -27,12 +28,25 @@ last_gives front e = fold-append (λ s x. status_of x) 7 front (e ∷ [])
 
 -- a search that ends with a result was not halted
 pub busy-of : (l : Limits) (h : List Event) (status : ℕ) → HasSearched l h → EndsAs h status → status < 3 → IsBusy l 1 h
-busy-of l h status s ends below = elim s.busy [
-  | inr busy ↦ busy
+busy-of l h status s ends below = elim s.stopped [
+  | inr (result, busy) ↦ busy
   | inl halted ↦
-      let is : status ≡ 7 = ends.gives ∙ sym (last_gives ends.front ends.last) ∙ sym (ap last_status ends.is) ∙ ap last_status halted.is ∙ last_gives halted.front (Halt halted.cause) in
+      let is : status ≡ 7 = ends.gives ∙ sym (last_gives ends.front ends.last) ∙ sym (ap last_status ends.is) ∙ ap last_status halted.is ∙ last_gives halted.front (Halt Memory) in
       absurd (omega (arith, is, below))
 ]
+
+pub stopped-of : (l : Limits) (h : List Event) → HasSearched l h → HasStopped h
+stopped-of l h s = elim s.stopped [
+  | inl halted ↦ inl halted
+  | inr (result, busy) ↦ inr result
+]
+
+-- where the last event is no result none is
+pub no-result : (h : List Event) (status : ℕ) → EndsAs h status → status ≡ 7 → HasNoResult h
+no-result h status ends seven front last is = sym (last_gives front last) ∙ sym (ap last_status is) ∙ ap last_status ends.is ∙ last_gives ends.front ends.last ∙ sym ends.gives ∙ seven
+
+pub none-of-none : (h : List Event) → length h ≡ 0 → HasNoResult h
+none-of-none h none front last is = absurd (omega (arith, none, ap length is, length-append front (last ∷ [])))
 
 -- while nothing is dispatched, no command is printed
 no-commands : (p : Problem) (l : Limits) (m : Machine) (h : List Event) → AreLegal p l m h → flat_map (command_of p) h ≡ []

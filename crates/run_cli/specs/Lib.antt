@@ -2,8 +2,12 @@ pub mod Commands
 pub mod OneWorker
 pub mod Options
 pub mod Orders
+pub mod Outcomes
 pub mod Parts
+pub mod Plainness
 pub mod Solving
 pub mod Sprouting
+pub mod Statuses
+pub mod Stopping
 pub mod Validating
 pub mod VerdictTexts

@@ -1,9 +1,7 @@
 -- A search by one worker, actor 1: it takes a node and merges it, again and again.
-use Rattle.std.specs.Prelude.{◌≡◌, ◌⊎◌, ◌<◌, ℕ, suc, ◌+◌, ◌-◌, max, Bool, true, false, ◌||◌, ◌==◌, List, [], ◌∷◌, ◌++◌, length, Option, Some, None, IsTrue}
+use Rattle.std.specs.Prelude.{◌≡◌, ◌⊎◌, ◌<◌, ℕ, suc, ◌+◌, ◌-◌, max, Bool, true, false, ◌||◌, ◌==◌, List, length, Some, None, IsTrue}
 use Rattle.std.specs.List.{list_all, list_any}
-use Rattle.tp_spec.specs.declared.event.Cause.{Cause}
 use Rattle.tp_spec.specs.declared.event.Event.{Event}
-use Rattle.tp_spec.specs.declared.event.Event.TheVariants.{Halt}
 use Rattle.tp_spec.specs.declared.plan.Limits.{Limits}
 use Rattle.tp_spec.specs.declared.problem.Problem.{Problem}
 use Rattle.tp_spec.specs.Following.{IsBusy, last_take}
@@ -14,6 +12,7 @@ use Rattle.open_tree.specs.Charter.{SameCharter}
 use Rattle.open_tree.specs.Jobs.{IsJobOf}
 use Rattle.open_tree.specs.Turns.{has_outcome}
 use Rattle.open_tree.specs.Views.{JobView, TreeView}
+use Rattle.run_cli.specs.Outcomes.{HasResult, IsHalted}
 
 abbrev pub is_open_or : ℕ → Node → Bool
 is_open_or id n = is_open n || n.id == id
@@ -64,13 +63,7 @@ pub record GoesOn (p : Problem) (l : Limits) (old new : List Event) : Type 0 whe
   pub searching : IsSearching p l new
   pub less : left_of l (state_of l new) < left_of l (state_of l old)
 
--- the run was ended from outside
-pub record IsHalted (history : List Event) : Type 0 where
-  pub front : List Event
-  pub cause : Cause
-  pub is : history ≡ front ++ Halt cause ∷ []
-
--- an outcome stands, and the history is busy unless the run was ended from outside
+-- an outcome stands: the run was halted, or the history ends with a result and is busy
 pub record HasSearched (l : Limits) (history : List Event) : Type 0 where
   pub outcome : has_outcome history ≡ true
-  pub busy : IsHalted history ⊎ IsBusy l 1 history
+  pub stopped : IsHalted history ⊎ (HasResult history × IsBusy l 1 history)

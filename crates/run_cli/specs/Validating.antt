@@ -5,7 +5,7 @@ use Rattle.tp_spec.specs.declared.plan.Limits.{Limits}
 use Rattle.tp_spec.specs.declared.plan.Plan.{Plan}
 use Rattle.tp_spec.specs.declared.problem.Problem.{Problem}
 use Rattle.tp_spec.specs.WellFormed.{IsWellFormed}
-use Rattle.tp_world.specs.Counts.{Rose}
+use Rattle.tp_world.specs.Counts.{Rose, one_more}
 use Rattle.tp_world.specs.Sinks.{AppendsFront}
 use Rattle.ground_text.specs.Faults.{TellsFault}
 use Rattle.ground_text.specs.Kept.{IsProblem}
@@ -118,32 +118,38 @@ IsRefused told ground_name plan_name line =
     IsGroundTooLong told ground_name line ⊎ (IsPlanTooLong told ground_name plan_name line
     ⊎ (IsGroundRefused told ground_name plan_name line ⊎ IsPlanRefused told ground_name plan_name line))
 
--- the plan file is loaded only where the ground file was
-pub record IsPlanUnloaded (told : Contents) (ground_name line : List ℕ) : Type 0 where
+-- the first load failed, and no other was asked for
+pub record IsGroundUnloaded (calls calls' : ℕ) (line : List ℕ) : Type 0 where
+  pub one_load : calls' ≡ one_more calls
+  pub line_is : line ≡ codes "fault ground\n"
+
+-- the ground file was loaded, and the second load failed
+pub record IsPlanUnloaded (told : Contents) (ground_name : List ℕ) (calls calls' : ℕ) (line : List ℕ) : Type 0 where
   pub text : List ℕ
   pub ground_loaded : Holds told ground_name text
+  pub two_loads : calls' ≡ one_more (one_more calls)
   pub line_is : line ≡ codes "fault plan\n"
 
 -- which load failed
-abbrev pub IsUnloaded : Contents → List ℕ → List ℕ → Type 0
-IsUnloaded told ground_name line = (line ≡ codes "fault ground\n") ⊎ IsPlanUnloaded told ground_name line
+abbrev pub IsUnloaded : Contents → List ℕ → ℕ → ℕ → List ℕ → Type 0
+IsUnloaded told ground_name calls calls' line = IsGroundUnloaded calls calls' line ⊎ IsPlanUnloaded told ground_name calls calls' line
 
 -- what two files give: a status, and the line that is printed; the count of failed loads rose where one failed
-pub record IsAnswer (told : Contents) (ground_name plan_name : List ℕ) (limits : Limits) (faults faults' status : ℕ) (line : List ℕ) : Type 0 where
+pub record IsAnswer (told : Contents) (ground_name plan_name : List ℕ) (limits : Limits) (faults faults' calls calls' status : ℕ) (line : List ℕ) : Type 0 where
   pub statuses : (status < 2) ⊎ ((status ≡ 4) ⊎ (status ≡ 5))
   pub judged : status < 2 → IsJudged told ground_name plan_name limits status line
   pub refused : status ≡ 4 → IsRefused told ground_name plan_name line
-  pub unloaded : status ≡ 5 → Rose faults faults' × IsUnloaded told ground_name line
+  pub unloaded : status ≡ 5 → Rose faults faults' × IsUnloaded told ground_name calls calls' line
 
 -- what is printed where a put is not refused: the line of what the files give
-pub record IsAnswered (told : Contents) (ground_name plan_name : List ℕ) (limits : Limits) (faults faults' : ℕ) (before after : Option (List ℕ)) (status : ℕ) : Type 0 where
+pub record IsAnswered (told : Contents) (ground_name plan_name : List ℕ) (limits : Limits) (faults faults' calls calls' : ℕ) (before after : Option (List ℕ)) (status : ℕ) : Type 0 where
   pub line : List ℕ
-  pub answer : IsAnswer told ground_name plan_name limits faults faults' status line
+  pub answer : IsAnswer told ground_name plan_name limits faults faults' calls calls' status line
   pub printed : Appends before after line
 
 -- what is printed where the put fails: some bytes from the front of the line of what the files give
-pub record IsCutOff (told : Contents) (ground_name plan_name : List ℕ) (limits : Limits) (faults faults' : ℕ) (before after : Option (List ℕ)) : Type 0 where
+pub record IsCutOff (told : Contents) (ground_name plan_name : List ℕ) (limits : Limits) (faults faults' calls calls' : ℕ) (before after : Option (List ℕ)) : Type 0 where
   pub status : ℕ
   pub line : List ℕ
-  pub answer : IsAnswer told ground_name plan_name limits faults faults' status line
+  pub answer : IsAnswer told ground_name plan_name limits faults faults' calls calls' status line
   pub printed : AppendsFront before after line

@@ -1,33 +1,37 @@
-ghost use Rattle.std.specs.Prelude.{◌≡◌, ◌≢◌, ◌&&◌, true, not, IfOk, MatchOption};
+ghost use Rattle.std.specs.Prelude.{◌≡◌, ◌&&◌, not, IfOk, IfErr};
 ghost use Rattle.std.specs.List.{list_all};
 ghost use Rattle.tp_spec.specs.Items.{is_durative_kind};
 ghost use Rattle.tp_spec.specs.Lists.{is_empty};
-ghost use Rattle.tp_spec.specs.declared.problem.Problem.{Problem as Ground};
 ghost use Rattle.tp_spec.specs.Plain.{is_plain as is_plain_of, is_plain_action as is_plain_action_of, is_literal as is_literal_of};
-ghost use Rattle.tp_laws.specs.Early.{IsPlain};
-ghost use Rattle.ground_text.specs.Kept.{IsProblem};
-ghost use Rattle.ground_text.specs.Texts.{problem_text};
+ghost use Rattle.run_cli.specs.Plainness.{IsPlainText, TellsWhy};
 
 use ground_text::{LineFault, read_problem_text};
 use std::alloc::Global;
-use tp_spec::{Action, Cond, Kind, NoMemory, Problem};
+use tp_spec::{Action, Cond, Kind, Problem};
 
-/// The plain problem whose ground text this is; none where it is no ground text of a plain problem.
-pub fn read_plain(alloc: Global, text: &[u8]) -> Result<Option<Problem>, NoMemory>
-    ensures { IfOk result (λ read. MatchOption read
-        ((p : Ground) → IsProblem p → is_plain_of p ≡ true → text.now ≢ problem_text p)
-        (λ p. (text.now ≡ problem_text p) × IsPlain p)) }
+/// Why a ground text gives no plain problem.
+#[derive(Clone, Copy, Debug, PartialEq, Eq)]
+pub enum PlainFault {
+    /// It is the text of a problem that is not plain.
+    NotBuilt,
+    /// It is no problem's text, and this is its first line that doesn't fit; or memory was refused.
+    Refused { fault: LineFault },
+}
+
+/// The plain problem whose ground text this is.
+pub fn read_plain(alloc: Global, text: &[u8]) -> Result<Problem, PlainFault>
+    ensures plain { IfOk result (IsPlainText text.now) }
+    ensures fault { IfErr result (TellsWhy text.now) }
 {
     match read_problem_text(alloc, text) {
         Ok(problem) => {
             if is_plain(&problem) {
-                Ok(Some(problem))
+                Ok(problem)
             } else {
-                Ok(None)
+                Err(PlainFault::NotBuilt)
             }
         }
-        Err(LineFault::Line { .. }) => Ok(None),
-        Err(LineFault::NoMemory) => Err(NoMemory),
+        Err(fault) => Err(PlainFault::Refused { fault }),
     }
 }
 

@@ -1,5 +1,5 @@
 //! The examples and bad input, by the command over the fakes; one job at a time on the tree.
-use crate::command::run;
+use crate::command::{run, run_local};
 use crate::reader::read_plain;
 use crate::validating::validate_files;
 use crate::words::{fault_line, read_words};
@@ -31,6 +31,9 @@ const STUCK: &str =
 
 const DRIVE: &str =
     "ground 1\nscale 1\nfacts 2\nat a\nat b\nfluents 0\nactions 1\nact go a b\nlength 5 5\ncs +0\nco\nce\nes -0\nee +1\ntimed 0\ninit 0\nvalues\ngoal +1\nend\n";
+
+const UNSORTED: &str =
+    "ground 1\nscale 1\nfacts 2\nat b\nat a\nfluents 0\nactions 0\ntimed 0\ninit 0\nvalues\ngoal +1\nend\n";
 
 const PLANT_OUT: &str =
     "plan\n0: (acknowledge alarm)\n0: (close drain)\n0: (open vent)\n1: (reset interlock)\n2: (open feed)\n3: (start pump a)\n4: (fill tank)\n5: (start cooling)\n5: (close vent)\n6: (light heater)\nend 6\n";
@@ -77,7 +80,8 @@ fn examples_print_what_they_should(rt: HostRuntime) -> Result<(), Fail> {
         (PLANT, PLANT_OUT, 0),
         (STUCK, "exhausted\n", 1),
         (DRIVE, "refused ground 0 NotBuilt\n", 4),
-        ("ground 1\n", "refused ground 0 NotBuilt\n", 4),
+        (UNSORTED, "refused ground 5 Line\n", 4),
+        ("ground 1\n", "refused ground 2 Line\n", 4),
     ];
     for (text, wanted, status) in cases {
         let (got, _, out) = solved(alloc, text, Vec::new(alloc), Vec::new(alloc))?;
@@ -113,10 +117,51 @@ fn other_words_are_refused(rt: HostRuntime) -> Result<(), Fail> {
     Ok(())
 }
 
+/// Runs the words of a line by `run_local`, with this text as the file `problem` and a plan of one act as the file `plan`.
+fn done_locally(alloc: Global, line: &str, text: &str) -> Result<(u8, MemorySink), Fail> {
+    let mut contents = Vec::new(alloc);
+    contents.push((
+        String::from_str(alloc, "problem")?,
+        text.as_bytes().to_vec(alloc)?,
+    ))?;
+    contents.push((
+        String::from_str(alloc, "plan")?,
+        b"0: (go a b) [5]\n".to_vec(alloc)?,
+    ))?;
+    let mut files = MemoryFiles::new(contents, Vec::new(alloc));
+    let mut out = MemorySink::new(alloc, Vec::new(alloc));
+    let mut words = Vec::new(alloc);
+    for word in line.split(' ') {
+        words.push(String::from_str(alloc, word)?)?;
+    }
+    let clock = ListClock::new(Vec::new(alloc));
+    let ending = run_local(alloc, &words, &mut files, &mut out, clock);
+    Ok((ending.status, out))
+}
+
+#[test]
+fn commands_that_wait_for_nobody(rt: HostRuntime) -> Result<(), Fail> {
+    let alloc = rt.alloc();
+    let cases = [
+        ("solve problem", PRESS, "", 3),
+        ("solve problem", DRIVE, "refused ground 0 NotBuilt\n", 4),
+        ("solve problem", UNSORTED, "refused ground 5 Line\n", 4),
+        ("solve other", PRESS, "fault ground\n", 5),
+        ("solve", PRESS, "refused words 1 FileCount\n", 3),
+        ("validate problem --plan plan", GO_UNTIL_SIX, "valid\n", 0),
+    ];
+    for (line, text, wanted, status) in cases {
+        let (got, out) = done_locally(alloc, line, text)?;
+        assert_eq!(rt; got, status);
+        assert_eq!(rt; out.bytes(), wanted.as_bytes());
+    }
+    Ok(())
+}
+
 #[test]
 fn second_take_gives_nothing(rt: HostRuntime) -> Result<(), Fail> {
     let alloc = rt.alloc();
-    let Ok(Some(problem)) = read_plain(alloc, PRESS.as_bytes()) else {
+    let Ok(problem) = read_plain(alloc, PRESS.as_bytes()) else {
         return Err(Fail::from("the text has a plain problem"));
     };
     let mut clock = ListClock::new(Vec::new(alloc));

@@ -3,23 +3,15 @@ ghost use Rattle.std.specs.Io.KnownBytes.{Keeps};
 ghost use Rattle.tp_world.specs.Counts.{Rose};
 ghost use Rattle.run_cli.specs.Validating.{verdict_status, IsPlanAnswer, IsTextAnswer, IsAnswer, IsAnswered, IsCutOff};
 
+use crate::answer::{Answer, put, said};
+use crate::loading::MOST_BYTES;
 use crate::verdicts::{ground_line, plan_line, verdict_text};
 use ground_text::read_problem_text;
 use plan_text::read_plan;
 use plan_validator::{Verdict, validate};
 use std::alloc::Global;
 use tp_spec::{Limits, NoMemory, Problem};
-use tp_world::{Files, LoadFault, SendFault, Sink};
-
-/// The most bytes of a ground text, and of a plan file.
-const MOST_BYTES: u64 = 1_048_576;
-
-/// What two files give: the status of the program, and the line that it prints.
-#[derive(Drop)]
-struct Answer {
-    status: u8,
-    line: Vec<u8>,
-}
+use tp_world::{Files, LoadFault, Sink};
 
 /// 0 where a plan is valid, else 1.
 fn verdict_status(verdict: &Verdict) -> u8
@@ -28,16 +20,6 @@ fn verdict_status(verdict: &Verdict) -> u8
     match verdict {
         Verdict::Valid => 0,
         _ => 1,
-    }
-}
-
-/// The answer of a status and a line.
-fn said(alloc: Global, status: u8, line: &[u8]) -> Result<Answer, NoMemory>
-    ensures { IfOk result (λ a. (a.status ≡ status) × (a.line.items ≡ line.now)) }
-{
-    match Vec::from_slice(alloc, line) {
-        Ok(line) => Ok(Answer { status, line }),
-        Err(_) => Err(NoMemory),
     }
 }
 
@@ -93,7 +75,7 @@ fn files_answer<F: Files>(
     limits: &Limits,
     files: &mut F,
 ) -> Result<Answer, NoMemory>
-    ensures answer { IfOk result (λ a. IsAnswer (F.contents files.old) ground_name.now plan_name.now limits.now (F.load_faults files.old) (F.load_faults files.new) a.status a.line.items) }
+    ensures answer { IfOk result (λ a. IsAnswer (F.contents files.old) ground_name.now plan_name.now limits.now (F.load_faults files.old) (F.load_faults files.new) (F.calls files.old) (F.calls files.new) a.status a.line.items) }
     ensures contents { F.contents files.new ≡ F.contents files.old }
 {
     let text = match files.load(alloc, ground_name, MOST_BYTES) {
@@ -125,18 +107,14 @@ pub fn validate_files<F: Files, O: Sink>(
     out: &mut O,
 ) -> u8
     ensures statuses { (result < 2) ⊎ ((result ≡ 4) ⊎ ((result ≡ 5) ⊎ ((result ≡ 6) ⊎ (result ≡ 7)))) }
-    ensures answered { result < 6 → IsAnswered (F.contents files.old) ground_name.now plan_name.now limits.now (F.load_faults files.old) (F.load_faults files.new) (O.held out.old) (O.held out.new) result }
+    ensures answered { result < 6 → IsAnswered (F.contents files.old) ground_name.now plan_name.now limits.now (F.load_faults files.old) (F.load_faults files.new) (F.calls files.old) (F.calls files.new) (O.held out.old) (O.held out.new) result }
     ensures write { result ≡ 6 → Rose (O.faults out.old) (O.faults out.new) }
-    ensures cut_off { result ≡ 6 → IsCutOff (F.contents files.old) ground_name.now plan_name.now limits.now (F.load_faults files.old) (F.load_faults files.new) (O.held out.old) (O.held out.new) }
+    ensures cut_off { result ≡ 6 → IsCutOff (F.contents files.old) ground_name.now plan_name.now limits.now (F.load_faults files.old) (F.load_faults files.new) (F.calls files.old) (F.calls files.new) (O.held out.old) (O.held out.new) }
     ensures memory { result ≡ 7 → Keeps (O.held out.old) (O.held out.new) }
     ensures contents { F.contents files.new ≡ F.contents files.old }
 {
     let Ok(answer) = files_answer(alloc, ground_name, plan_name, limits, files) else {
         return 7;
     };
-    match out.put(&answer.line) {
-        Ok(()) => answer.status,
-        Err(SendFault::Failed) => 6,
-        Err(SendFault::NoMemory) => 7,
-    }
+    put(out, &answer.line, answer.status)
 }

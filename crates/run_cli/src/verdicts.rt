@@ -115,9 +115,7 @@ pub fn ground_line(alloc: Global, fault: LineFault) -> Result<Vec<u8>, NoMemory>
     ensures { IfOk result (λ t. ground_line fault ≡ Some t.items) }
 {
     match fault {
-        LineFault::Line { number } => {
-            numbered(alloc, b"refused ground ", u64::from(number), b" Line\n")
-        }
+        LineFault::Line { number } => { numbered(alloc, b"refused ground ", number, b" Line\n") }
         LineFault::NoMemory => Err(NoMemory),
     }
 }

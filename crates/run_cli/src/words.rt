@@ -1,4 +1,4 @@
-ghost use Rattle.std.specs.Prelude.{◌≡◌, ◌≤◌, ◌++◌, ◌∷◌, [], None, false, map, length, IfOk, OnOk, MatchOption, string_bytes};
+ghost use Rattle.std.specs.Prelude.{◌≡◌, ◌≤◌, ◌++◌, ◌∷◌, [], None, false, map, length, IfOk, MatchOption, string_bytes};
 ghost use Rattle.std.specs.Option.{option_map};
 ghost use Rattle.run_cli.specs.Options.{range_of};
 ghost use Rattle.run_cli.specs.Parts.{seen};
@@ -8,7 +8,7 @@ ghost use Rattle.run_cli.specs.Orders.{gives, is_given, twice_faults, range_faul
 
 use crate::options::{Command, Setting, command_named, name_of, needed_of, number_in, range_of};
 use crate::parts::{Part, parts_of};
-use itoa::Buffer;
+use plan_text::{push_bytes, push_number};
 use std::alloc::Global;
 use thiserror::Error;
 use tp_spec::{Limits, List, Name, NoMemory};
@@ -345,25 +345,14 @@ fn name_and_place(fault: WordFault) -> Option<(&'static [u8], usize)>
     }
 }
 
-/// Puts bytes behind a text.
-fn push_bytes(text: &mut Vec<u8>, bytes: &[u8]) -> Result<(), NoMemory>
-    ensures { OnOk result (text.new.items ≡ text.old.items ++ bytes.now) }
-{
-    match text.extend_from_slice(bytes) {
-        Ok(()) => Ok(()),
-        Err(_) => Err(NoMemory),
-    }
-}
-
 /// The line that a fault prints: `refused words PLACE FAULT`; no text for want of memory.
 pub fn fault_line(alloc: Global, fault: WordFault) -> Result<Vec<u8>, NoMemory>
     ensures { IfOk result (λ t. t.items ≡ fault_text fault) }
 {
     let mut text = Vec::new(alloc);
     if let Some((name, at)) = name_and_place(fault) {
-        let mut buffer = Buffer::new();
         push_bytes(&mut text, b"refused words ")?;
-        push_bytes(&mut text, buffer.format(at).as_bytes())?;
+        push_number(&mut text, at as u64)?;
         push_bytes(&mut text, b" ")?;
         push_bytes(&mut text, name)?;
         push_bytes(&mut text, b"\n")?;

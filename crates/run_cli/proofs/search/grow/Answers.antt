@@ -1,6 +1,5 @@
 use Rattle.std.proofs.Common.{sym, subst, ◌∙◌}
 use Rattle.std.proofs.lemmas.Bool.{false≢true}
-use Rattle.tp_spec.specs.declared.event.Cause.TheVariants.{Memory}
 use Rattle.open_tree.specs.Answers.{GivesMerged}
 use Rattle.run_cli.proofs.OneJob.{job-early, live-early, are-sprouts, goes-next, ended-job, halted}
 use Rattle.run_cli.proofs.search.grow.Goals as goal
@@ -24,5 +23,5 @@ returns-clause-off g c = elim c.match-merge.branch [
   | in-Ok-Done w ↦ λ e. absurd (false≢true (sym e ∙ w.result-is))
   | in-Ok-Over w ↦ λ _. ended-job _ _ _ _ _ c.args.job c.new.result c.new.ensures.job c.requires.holding
       (subst (GivesMerged c.args.tree.now.limits c.args.tree.now.history c.merge.new.self.history 1 (g.C.Clock.last c.merge.new.self.clock) c.new.result) w.in-Ok-Over.field-0-is (w.in-Ok-Over.ensures.merged c.requires.holding.standing))
-  | in-Err w ↦ λ _. halted _ _ _ Memory w.in-Err.ensures.err
+  | in-Err w ↦ λ _. halted _ _ _ w.in-Err.ensures.err
 ]

@@ -3,7 +3,7 @@ use Rattle.std.proofs.lemmas.Result.{IfOk-weaker}
 use Rattle.run_cli.specs.Validating.{Contents, Holds, HoldsTooMany, IsTextAnswer}
 use Rattle.run_cli.proofs.Answering.{plan_too_long, loaded_answer}
 use Rattle.run_cli.proofs.validating.files_answer.Goals as goal
-use Rattle.run_cli.specs.declared.validating.Answer.{Answer}
+use Rattle.run_cli.specs.declared.answer.Answer.{Answer}
 
 pub returns-in-Err-TooLong-load-clause-answer : goal.returns-in-Err-TooLong-load-clause-answer
 returns-in-Err-TooLong-load-clause-answer g c =
@@ -11,7 +11,7 @@ returns-in-Err-TooLong-load-clause-answer g c =
     let long : HoldsTooMany (g.F.Files.contents c.args.files.now) c.args.plan_name.now =
     subst (λ (told : Contents). HoldsTooMany told c.args.plan_name.now) c.in-Ok.ensures.contents (rw c.in-Err-TooLong-load.field-0-is at c.in-Err-TooLong-load.ensures.too_long refl) in
     IfOk-weaker c.said-in-Err-TooLong-load.result (λ (a : Answer). (a.status ≡ 4) × (a.line.items ≡ codes "refused plan 1048576 FileTooLong\n")) _
-    (λ a h. plan_too_long (g.F.Files.contents c.args.files.now) c.args.ground_name.now c.args.plan_name.now c.args.limits.now _ _ a.status a.line.items c.in-Ok.text.items loaded long h.0 h.1)
+    (λ a h. plan_too_long (g.F.Files.contents c.args.files.now) c.args.ground_name.now c.args.plan_name.now c.args.limits.now _ _ _ _ a.status a.line.items c.in-Ok.text.items loaded long h.0 h.1)
     c.said-in-Err-TooLong-load.ensures
 
 pub returns-clause-answer : goal.returns-clause-answer
@@ -24,6 +24,6 @@ returns-clause-answer g c =
       within = search rules;
     }) in
     IfOk-weaker c.text_answer.result (λ (a : Answer). IsTextAnswer c.args.limits.now c.deref.result.now c.deref-2.result.now a.status a.line.items) _
-    (λ a h. loaded_answer (g.F.Files.contents c.args.files.now) c.args.ground_name.now c.args.plan_name.now c.args.limits.now _ _ a.status a.line.items c.deref.result.now c.deref-2.result.now
+    (λ a h. loaded_answer (g.F.Files.contents c.args.files.now) c.args.ground_name.now c.args.plan_name.now c.args.limits.now _ _ _ _ a.status a.line.items c.deref.result.now c.deref-2.result.now
     (record { ground_holds = first; plan_holds = second }) h)
     c.text_answer.ensures

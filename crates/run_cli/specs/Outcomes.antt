@@ -1,0 +1,38 @@
+-- How a history ends, and the status of the program for it.
+use Rattle.std.specs.Prelude.{◌≡◌, ◌<◌, ◌⊎◌, ℕ, List, [], ◌∷◌, ◌++◌}
+use Rattle.tp_spec.specs.declared.event.Cause.TheVariants.{Memory}
+use Rattle.tp_spec.specs.declared.event.Event.{Event}
+use Rattle.tp_spec.specs.declared.event.Event.TheVariants.{Publish, Limit, Exhaust, Halt}
+
+-- the status for an event that ends a search: 0 for a plan, 1 where the search is exhausted, 2 at the limit, else 7
+abbrev pub status_of : Event → ℕ
+status_of (Publish actor id plan) = 0
+status_of Exhaust = 1
+status_of (Limit actor id made marks) = 2
+status_of _ = 7
+
+-- the last event gives this status
+pub record EndsAs (history : List Event) (status : ℕ) : Type 0 where
+  pub front : List Event
+  pub last : Event
+  pub is : history ≡ front ++ last ∷ []
+  pub gives : status ≡ status_of last
+
+-- the last event is a result: a plan, that the search is exhausted, or the limit
+pub record HasResult (history : List Event) : Type 0 where
+  pub status : ℕ
+  pub below : status < 3
+  pub ends : EndsAs history status
+
+-- the last event is no result
+abbrev pub HasNoResult : List Event → Type 0
+HasNoResult history = (front : List Event) (last : Event) → history ≡ front ++ last ∷ [] → status_of last ≡ 7
+
+-- the run was halted, since memory was refused
+pub record IsHalted (history : List Event) : Type 0 where
+  pub front : List Event
+  pub is : history ≡ front ++ Halt Memory ∷ []
+
+-- a history that ends with a result, or that was halted
+abbrev pub HasStopped : List Event → Type 0
+HasStopped history = IsHalted history ⊎ HasResult history
