@@ -3,6 +3,7 @@ use Rattle.std.proofs.Common.{◌≡◌, sym, ap, ℕ, ◌+◌, Bool, true, fals
 use Rattle.std.specs.Prelude.{bytes_eq, codes}
 use Rattle.std.proofs.lemmas.Bool.{false≢true}
 use Rattle.tp_spec.specs.declared.event.Event.{Event}
+use Rattle.tp_world.specs.Requests.{Request}
 use Rattle.run_cli.specs.Commands.{first_file, is_solve, asks_to_solve}
 use Rattle.run_cli.specs.Options.{options_of}
 use Rattle.run_cli.specs.Orders.{told_of, judged, faults_of, ordered, commanded, order_of}
@@ -41,8 +42,8 @@ asked [] order e = absurd (false≢true (ap is_okay e))
 asked (word ∷ rest) order e = asked_at (bytes_eq word (codes "solve")) (bytes_eq word (codes "validate")) rest order e
 
 -- what is said of `solve` is said of a command that is `solve`
-pub of_solve : (told : Contents) (order : Order) (rate faults faults' calls calls' : ℕ) (before after : Option (List ℕ)) (status : ℕ) (history : List Event)
-    (command : Command) → is_solve command ≡ true → EndsSolve told (first_file order) order.limits rate faults faults' before after status history
-    → EndsCommand told order rate faults faults' calls calls' before after status history command
-of_solve told order rate faults faults' calls calls' before after status history Solve is ends = ends
-of_solve told order rate faults faults' calls calls' before after status history Validate is ends = absurd (false≢true is)
+pub of_solve : (told : Contents) (order : Order) (rate faults faults' : ℕ) (asked_before asked_after : List Request) (before after : Option (List ℕ)) (status : ℕ) (history : List Event)
+    (command : Command) → is_solve command ≡ true → EndsSolve told (first_file order) order.limits rate faults faults' asked_before asked_after before after status history
+    → EndsCommand told order rate faults faults' asked_before asked_after before after status history command
+of_solve told order rate faults faults' asked_before asked_after before after status history Solve is ends = ends
+of_solve told order rate faults faults' asked_before asked_after before after status history Validate is ends = absurd (false≢true is)

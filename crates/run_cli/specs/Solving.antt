@@ -8,10 +8,11 @@ use Rattle.tp_spec.specs.Following.{IsBusy}
 use Rattle.tp_spec.specs.Machine.{IsWholeRun}
 use Rattle.tp_spec.specs.Texts.{out_text}
 use Rattle.tp_world.specs.Counts.{Rose}
+use Rattle.tp_world.specs.Requests.{Request}
 use Rattle.tp_world.specs.Sinks.{AppendsFront}
 use Rattle.run_cli.specs.Outcomes.{EndsAs, HasStopped}
 use Rattle.run_cli.specs.Plainness.{IsPlainText, IsUnbuiltText}
-use Rattle.run_cli.specs.Validating.{Contents, Holds, IsGroundTooLong, RefusesGround}
+use Rattle.run_cli.specs.Validating.{Contents, Holds, LoadsOne, IsGroundTooLong, RefusesGround}
 
 -- A run of a problem that ends with a result: its history is a whole run, busy for the one worker, and ends with the outcome
 -- of the status; the clock has the problem's unit of time.
@@ -95,14 +96,16 @@ pub record SaysWhyInPart (told : Contents) (name : List ℕ) (faults faults' : �
   pub none : history ≡ []
 
 -- What `solve` gives of a file: at 0, 1 and 2 a result; at 4 and 5 why nothing is searched; at 6 a front of the one or of the
--- other; and at every status no history, or a whole run, which at 7 was halted or has a result.
-pub record EndsSolve (told : Contents) (name : List ℕ) (l : Limits) (rate faults faults' : ℕ) (before after : Option (List ℕ)) (status : ℕ) (history : List Event) : Type 0 where
+-- other; and at every status no history, or a whole run, which at 7 was halted or has a result. But for 7 the file was asked
+-- for once, and nothing else.
+pub record EndsSolve (told : Contents) (name : List ℕ) (l : Limits) (rate faults faults' : ℕ) (asked asked' : List Request) (before after : Option (List ℕ)) (status : ℕ) (history : List Event) : Type 0 where
   pub statuses : status ≢ 3
   pub solved : status < 3 → IsSolved told name l rate before after status history
   pub unsearched : (status ≡ 4) ⊎ (status ≡ 5) → SaysWhy told name faults faults' before after status
   pub cut_off : status ≡ 6 → IsSolvedInPart told name l rate before after history ⊎ SaysWhyInPart told name faults faults' before after history
   pub stopped : status ≡ 7 → (history ≡ []) ⊎ HasStopped history
   pub run : (history ≡ []) ⊎ IsSearched told name l history
+  pub once : status < 7 → LoadsOne name asked asked'
 
 -- the file is read, nothing is searched, and nothing is put
 pub record IsLeft (told : Contents) (name : List ℕ) (before after : Option (List ℕ)) : Type 0 where
@@ -111,9 +114,10 @@ pub record IsLeft (told : Contents) (name : List ℕ) (before after : Option (Li
   pub kept : Keeps before after
 
 -- What `solve` gives of a file where it may not search: at 3 that it could; else as where it may.
-pub record EndsUnsolved (told : Contents) (name : List ℕ) (faults faults' : ℕ) (before after : Option (List ℕ)) (status : ℕ) (history : List Event) : Type 0 where
+pub record EndsUnsolved (told : Contents) (name : List ℕ) (faults faults' : ℕ) (asked asked' : List Request) (before after : Option (List ℕ)) (status : ℕ) (history : List Event) : Type 0 where
   pub statuses : 2 < status
   pub left : status ≡ 3 → IsLeft told name before after
   pub unsearched : (status ≡ 4) ⊎ (status ≡ 5) → SaysWhy told name faults faults' before after status
   pub cut_off : status ≡ 6 → SaysWhyInPart told name faults faults' before after history
   pub none : history ≡ []
+  pub once : status < 7 → LoadsOne name asked asked'

@@ -3,6 +3,7 @@ use Rattle.std.specs.Prelude.{◌≡◌, ◌≢◌, ◌<◌, ◌⊎◌, ℕ, Lis
 use Rattle.std.specs.Io.KnownBytes.{Appends}
 use Rattle.tp_spec.specs.declared.event.Event.{Event}
 use Rattle.tp_spec.specs.declared.plan.Limits.{Limits}
+use Rattle.tp_world.specs.Requests.{Request}
 use Rattle.tp_world.specs.Sinks.{AppendsFront}
 use Rattle.run_cli.specs.Commands.{first_file, plan_file}
 use Rattle.run_cli.specs.Orders.{order_of, fault_text}
@@ -26,25 +27,25 @@ pub record EndsRefused (fault : WordFault) (before after : Option (List ℕ)) (s
   pub none : history ≡ []
 
 -- What `validate` gives of its files: a verdict, a refusal or a failed load, or a front of its line; and no history.
-pub record EndsValidate (told : Contents) (name plan : List ℕ) (l : Limits) (faults faults' calls calls' : ℕ) (before after : Option (List ℕ)) (status : ℕ) (history : List Event) : Type 0 where
+pub record EndsValidate (told : Contents) (name plan : List ℕ) (l : Limits) (faults faults' : ℕ) (asked asked' : List Request) (before after : Option (List ℕ)) (status : ℕ) (history : List Event) : Type 0 where
   pub statuses : status ≢ 3
-  pub answered : status < 6 → IsAnswered told name plan l faults faults' calls calls' before after status
-  pub cut_off : status ≡ 6 → IsCutOff told name plan l faults faults' calls calls' before after
+  pub answered : status < 6 → IsAnswered told name plan l faults faults' asked asked' before after status
+  pub cut_off : status ≡ 6 → IsCutOff told name plan l faults faults' asked asked' before after
   pub none : history ≡ []
 
 -- what a command gives
-abbrev pub EndsCommand : Contents → Order → ℕ → ℕ → ℕ → ℕ → ℕ → Option (List ℕ) → Option (List ℕ) → ℕ → List Event → Command → Type 0
-EndsCommand told order rate faults faults' calls calls' before after status history Solve =
-    EndsSolve told (first_file order) order.limits rate faults faults' before after status history
-EndsCommand told order rate faults faults' calls calls' before after status history Validate =
-    EndsValidate told (first_file order) (plan_file order) order.limits faults faults' calls calls' before after status history
+abbrev pub EndsCommand : Contents → Order → ℕ → ℕ → ℕ → List Request → List Request → Option (List ℕ) → Option (List ℕ) → ℕ → List Event → Command → Type 0
+EndsCommand told order rate faults faults' asked asked' before after status history Solve =
+    EndsSolve told (first_file order) order.limits rate faults faults' asked asked' before after status history
+EndsCommand told order rate faults faults' asked asked' before after status history Validate =
+    EndsValidate told (first_file order) (plan_file order) order.limits faults faults' asked asked' before after status history
 
 -- what a command gives where none may wait: every command but `solve` the same
-abbrev pub EndsLocal : Contents → Order → ℕ → ℕ → ℕ → ℕ → Option (List ℕ) → Option (List ℕ) → ℕ → List Event → Command → Type 0
-EndsLocal told order faults faults' calls calls' before after status history Solve =
-    EndsUnsolved told (first_file order) faults faults' before after status history
-EndsLocal told order faults faults' calls calls' before after status history Validate =
-    EndsValidate told (first_file order) (plan_file order) order.limits faults faults' calls calls' before after status history
+abbrev pub EndsLocal : Contents → Order → ℕ → ℕ → List Request → List Request → Option (List ℕ) → Option (List ℕ) → ℕ → List Event → Command → Type 0
+EndsLocal told order faults faults' asked asked' before after status history Solve =
+    EndsUnsolved told (first_file order) faults faults' asked asked' before after status history
+EndsLocal told order faults faults' asked asked' before after status history Validate =
+    EndsValidate told (first_file order) (plan_file order) order.limits faults faults' asked asked' before after status history
 
 -- the words order `solve`
 pub record AreOfSolve (words : List (List ℕ)) : Type 0 where

@@ -35,7 +35,8 @@ pub fn run<F: Files, O: Sink + Send, C: Clock + Send, G: Gate>(
     ensures statuses { result.status < 8 }
     ensures words { result.status ≡ 3 → AreRefused (map string_bytes words.now) (O.held out.old) (O.held out.new) }
     ensures refused { (fault : FaultOf) → order_of (map string_bytes words.now) ≡ Err fault → EndsRefused fault (O.held out.old) (O.held out.new) result.status result.history.items }
-    ensures command { (order : OrderOf) → order_of (map string_bytes words.now) ≡ Ok order → EndsCommand (F.contents files.old) order (C.rate result.clock) (F.load_faults files.old) (F.load_faults files.new) (F.calls files.old) (F.calls files.new) (O.held out.old) (O.held out.new) result.status result.history.items order.command }
+    ensures unasked { (fault : FaultOf) → order_of (map string_bytes words.now) ≡ Err fault → F.requests files.new ≡ F.requests files.old }
+    ensures command { (order : OrderOf) → order_of (map string_bytes words.now) ≡ Ok order → EndsCommand (F.contents files.old) order (C.rate result.clock) (F.load_faults files.old) (F.load_faults files.new) (F.requests files.old) (F.requests files.new) (O.held out.old) (O.held out.new) result.status result.history.items order.command }
     ensures write { result.status ≡ 6 → Rose (O.faults out.old) (O.faults out.new) }
     ensures kept { result.status ≡ 7 → Keeps (O.held out.old) (O.held out.new) }
     ensures empty { (result.status ≡ 3) ⊎ ((result.status ≡ 4) ⊎ (result.status ≡ 5)) → result.history.items ≡ [] }
@@ -63,7 +64,8 @@ pub fn run_local<F: Files, O: Sink, C: Clock>(
     ensures statuses { result.status < 8 }
     ensures words { result.status ≡ 3 → AreRefused (map string_bytes words.now) (O.held out.old) (O.held out.new) ⊎ AreOfSolve (map string_bytes words.now) }
     ensures refused { (fault : FaultOf) → order_of (map string_bytes words.now) ≡ Err fault → EndsRefused fault (O.held out.old) (O.held out.new) result.status result.history.items }
-    ensures command { (order : OrderOf) → order_of (map string_bytes words.now) ≡ Ok order → EndsLocal (F.contents files.old) order (F.load_faults files.old) (F.load_faults files.new) (F.calls files.old) (F.calls files.new) (O.held out.old) (O.held out.new) result.status result.history.items order.command }
+    ensures unasked { (fault : FaultOf) → order_of (map string_bytes words.now) ≡ Err fault → F.requests files.new ≡ F.requests files.old }
+    ensures command { (order : OrderOf) → order_of (map string_bytes words.now) ≡ Ok order → EndsLocal (F.contents files.old) order (F.load_faults files.old) (F.load_faults files.new) (F.requests files.old) (F.requests files.new) (O.held out.old) (O.held out.new) result.status result.history.items order.command }
     ensures write { result.status ≡ 6 → Rose (O.faults out.old) (O.faults out.new) }
     ensures kept { result.status ≡ 7 → Keeps (O.held out.old) (O.held out.new) }
     ensures none { result.history.items ≡ [] }
@@ -97,7 +99,8 @@ fn run_solve<F: Files, O: Sink, C: Clock>(
     ensures statuses { result.status < 8 }
     ensures words { result.status ≡ 3 → AreRefused (map string_bytes words.now) (O.held out.old) (O.held out.new) }
     ensures refused { (fault : FaultOf) → order_of (map string_bytes words.now) ≡ Err fault → EndsRefused fault (O.held out.old) (O.held out.new) result.status result.history.items }
-    ensures command { (order : OrderOf) → order_of (map string_bytes words.now) ≡ Ok order → EndsSolve (F.contents files.old) (first_file order) order.limits (C.rate result.clock) (F.load_faults files.old) (F.load_faults files.new) (O.held out.old) (O.held out.new) result.status result.history.items }
+    ensures unasked { (fault : FaultOf) → order_of (map string_bytes words.now) ≡ Err fault → F.requests files.new ≡ F.requests files.old }
+    ensures command { (order : OrderOf) → order_of (map string_bytes words.now) ≡ Ok order → EndsSolve (F.contents files.old) (first_file order) order.limits (C.rate result.clock) (F.load_faults files.old) (F.load_faults files.new) (F.requests files.old) (F.requests files.new) (O.held out.old) (O.held out.new) result.status result.history.items }
     ensures write { result.status ≡ 6 → Rose (O.faults out.old) (O.faults out.new) }
     ensures kept { result.status ≡ 7 → Keeps (O.held out.old) (O.held out.new) }
     ensures empty { (result.status ≡ 3) ⊎ ((result.status ≡ 4) ⊎ (result.status ≡ 5)) → result.history.items ≡ [] }
@@ -121,7 +124,7 @@ fn run_order<F: Files, O: Sink, C: Clock>(
     requires one { length order.now.files ≡ 1 }
     requires plan { HasPlan order.now }
     ensures statuses { result.status < 8 }
-    ensures command { EndsLocal (F.contents files.old) order.now (F.load_faults files.old) (F.load_faults files.new) (F.calls files.old) (F.calls files.new) (O.held out.old) (O.held out.new) result.status result.history.items order.now.command }
+    ensures command { EndsLocal (F.contents files.old) order.now (F.load_faults files.old) (F.load_faults files.new) (F.requests files.old) (F.requests files.new) (O.held out.old) (O.held out.new) result.status result.history.items order.now.command }
     ensures write { result.status ≡ 6 → Rose (O.faults out.old) (O.faults out.new) }
     ensures kept { result.status ≡ 7 → Keeps (O.held out.old) (O.held out.new) }
     ensures none { result.history.items ≡ [] }
@@ -167,7 +170,7 @@ fn leave_file<F: Files, O: Sink, C: Clock>(
     clock: C,
 ) -> Ending<C>
     ensures statuses { result.status < 8 }
-    ensures command { EndsUnsolved (F.contents files.old) name.now (F.load_faults files.old) (F.load_faults files.new) (O.held out.old) (O.held out.new) result.status result.history.items }
+    ensures command { EndsUnsolved (F.contents files.old) name.now (F.load_faults files.old) (F.load_faults files.new) (F.requests files.old) (F.requests files.new) (O.held out.old) (O.held out.new) result.status result.history.items }
     ensures write { result.status ≡ 6 → Rose (O.faults out.old) (O.faults out.new) }
     ensures kept { result.status ≡ 7 → Keeps (O.held out.old) (O.held out.new) }
     ensures contents { F.contents files.new ≡ F.contents files.old }
@@ -191,7 +194,7 @@ fn judge_files<F: Files, O: Sink, C: Clock>(
     clock: C,
 ) -> Ending<C>
     ensures statuses { result.status < 8 }
-    ensures command { EndsValidate (F.contents files.old) name.now plan.now limits.now (F.load_faults files.old) (F.load_faults files.new) (F.calls files.old) (F.calls files.new) (O.held out.old) (O.held out.new) result.status result.history.items }
+    ensures command { EndsValidate (F.contents files.old) name.now plan.now limits.now (F.load_faults files.old) (F.load_faults files.new) (F.requests files.old) (F.requests files.new) (O.held out.old) (O.held out.new) result.status result.history.items }
     ensures write { result.status ≡ 6 → Rose (O.faults out.old) (O.faults out.new) }
     ensures kept { result.status ≡ 7 → Keeps (O.held out.old) (O.held out.new) }
     ensures contents { F.contents files.new ≡ F.contents files.old }

@@ -1,6 +1,7 @@
 ghost use Rattle.std.specs.Prelude.{◌≡◌, Some, IfOk, IfErr};
 ghost use Rattle.run_cli.specs.Solving.{HoldsPlain};
 ghost use Rattle.run_cli.specs.Stopping.{IsStop, plain_line};
+ghost use Rattle.run_cli.specs.Validating.{LoadsOne};
 
 use crate::answer::{Answer, said};
 use crate::reader::{PlainFault, read_plain};
@@ -35,6 +36,7 @@ pub fn load_plain<F: Files>(alloc: Global, name: &str, files: &mut F) -> Result<
     ensures plain { IfOk result (HoldsPlain (F.contents files.old) name.now) }
     ensures stop { IfErr result (IsStop (F.contents files.old) name.now (F.load_faults files.old) (F.load_faults files.new)) }
     ensures contents { F.contents files.new ≡ F.contents files.old }
+    ensures once { LoadsOne name.now (F.requests files.old) (F.requests files.new) }
 {
     let text = match files.load(alloc, name, MOST_BYTES) {
         Ok(text) => text,

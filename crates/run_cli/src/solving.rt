@@ -28,7 +28,7 @@ pub fn solve_file<F: Files, O: Sink, C: Clock>(
     clock: C,
 ) -> Ending<C>
     ensures statuses { result.status < 8 }
-    ensures command { EndsSolve (F.contents files.old) name.now limits (C.rate result.clock) (F.load_faults files.old) (F.load_faults files.new) (O.held out.old) (O.held out.new) result.status result.history.items }
+    ensures command { EndsSolve (F.contents files.old) name.now limits (C.rate result.clock) (F.load_faults files.old) (F.load_faults files.new) (F.requests files.old) (F.requests files.new) (O.held out.old) (O.held out.new) result.status result.history.items }
     ensures write { result.status ≡ 6 → Rose (O.faults out.old) (O.faults out.new) }
     ensures kept { result.status ≡ 7 → Keeps (O.held out.old) (O.held out.new) }
     ensures empty { (result.status ≡ 4) ⊎ (result.status ≡ 5) → result.history.items ≡ [] }

@@ -75,7 +75,7 @@ fn files_answer<F: Files>(
     limits: &Limits,
     files: &mut F,
 ) -> Result<Answer, NoMemory>
-    ensures answer { IfOk result (λ a. IsAnswer (F.contents files.old) ground_name.now plan_name.now limits.now (F.load_faults files.old) (F.load_faults files.new) (F.calls files.old) (F.calls files.new) a.status a.line.items) }
+    ensures answer { IfOk result (λ a. IsAnswer (F.contents files.old) ground_name.now plan_name.now limits.now (F.load_faults files.old) (F.load_faults files.new) (F.requests files.old) (F.requests files.new) a.status a.line.items) }
     ensures contents { F.contents files.new ≡ F.contents files.old }
 {
     let text = match files.load(alloc, ground_name, MOST_BYTES) {
@@ -107,9 +107,9 @@ pub fn validate_files<F: Files, O: Sink>(
     out: &mut O,
 ) -> u8
     ensures statuses { (result < 2) ⊎ ((result ≡ 4) ⊎ ((result ≡ 5) ⊎ ((result ≡ 6) ⊎ (result ≡ 7)))) }
-    ensures answered { result < 6 → IsAnswered (F.contents files.old) ground_name.now plan_name.now limits.now (F.load_faults files.old) (F.load_faults files.new) (F.calls files.old) (F.calls files.new) (O.held out.old) (O.held out.new) result }
+    ensures answered { result < 6 → IsAnswered (F.contents files.old) ground_name.now plan_name.now limits.now (F.load_faults files.old) (F.load_faults files.new) (F.requests files.old) (F.requests files.new) (O.held out.old) (O.held out.new) result }
     ensures write { result ≡ 6 → Rose (O.faults out.old) (O.faults out.new) }
-    ensures cut_off { result ≡ 6 → IsCutOff (F.contents files.old) ground_name.now plan_name.now limits.now (F.load_faults files.old) (F.load_faults files.new) (F.calls files.old) (F.calls files.new) (O.held out.old) (O.held out.new) }
+    ensures cut_off { result ≡ 6 → IsCutOff (F.contents files.old) ground_name.now plan_name.now limits.now (F.load_faults files.old) (F.load_faults files.new) (F.requests files.old) (F.requests files.new) (O.held out.old) (O.held out.new) }
     ensures memory { result ≡ 7 → Keeps (O.held out.old) (O.held out.new) }
     ensures contents { F.contents files.new ≡ F.contents files.old }
 {

@@ -3,6 +3,7 @@ use Rattle.std.specs.Prelude.{◌≡◌, ◌≢◌, ℕ, Bool, List, Option, Som
 use Rattle.std.specs.List.{list_any}
 use Rattle.std.specs.Option.{option_map}
 use Rattle.std.specs.Str.{bytes_eq}
+use Rattle.tp_world.specs.Requests.{Request}
 
 -- told contents stay told, and every name but this one has what it had
 abbrev pub KeepsOthers : Option (List ℕ → Option (List ℕ)) → Option (List ℕ → Option (List ℕ)) → List ℕ → Type 0
@@ -25,13 +26,14 @@ abbrev pub file_of : {Y Z : Type 0} → String Y × Vec ℕ Z → List ℕ × Li
 file_of entry = (string_bytes entry.0, entry.1.items)
 
 -- files in memory: each name with its bytes, the numbers of the calls that fail, how many calls there
--- were, and how many loads and how many saves failed
+-- were, how many loads and how many saves failed, and what was asked for
 pub record FilesState : Type 0 where
   pub files : List (List ℕ × List ℕ)
   pub failing : List ℕ
   pub calls : ℕ
   pub load_faults : ℕ
   pub save_faults : ℕ
+  pub requests : List Request
 
 -- the next call is one of those that fail
 abbrev pub fails_next : FilesState → Bool

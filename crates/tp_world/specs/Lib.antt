@@ -2,4 +2,5 @@ pub mod Contents
 pub mod Counts
 pub mod LoadFaults
 pub mod Readings
+pub mod Requests
 pub mod Sinks

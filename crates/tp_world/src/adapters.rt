@@ -1,10 +1,11 @@
 //! Adapters of the real thing. What the system holds is not told, so no clause speaks of it.
-ghost use Rattle.std.specs.Prelude.{◌≡◌, ◌*◌, ◌/◌, ◌-◌, ◌^◌, min, None};
+ghost use Rattle.std.specs.Prelude.{◌≡◌, ◌*◌, ◌/◌, ◌-◌, ◌^◌, min, [], None};
 ghost use Rattle.std.specs.Duration.{as_nanos};
 
 use crate::clock::Clock;
 use crate::files::{Files, LoadFault, SaveFault};
 use crate::gate::{Gate, Point};
+use crate::requests::Requests;
 use crate::sink::{SendFault, Sink};
 use std::alloc::Global;
 use std::fs::Files as SystemFiles;
@@ -18,7 +19,7 @@ pub struct DiskFiles<R> {
     rt: R,
     load_faults: u64,
     save_faults: u64,
-    calls: u64,
+    requests: Requests,
 }
 
 impl<R: SystemFiles> DiskFiles<R> {
@@ -27,13 +28,13 @@ impl<R: SystemFiles> DiskFiles<R> {
         ensures contents { ⟦<DiskFiles<R> as Files>⟧.contents result ≡ None }
         ensures load_faults { ⟦<DiskFiles<R> as Files>⟧.load_faults result ≡ 0 }
         ensures save_faults { ⟦<DiskFiles<R> as Files>⟧.save_faults result ≡ 0 }
-        ensures calls { ⟦<DiskFiles<R> as Files>⟧.calls result ≡ 0 }
+        ensures requests { ⟦<DiskFiles<R> as Files>⟧.requests result ≡ [] }
     {
         DiskFiles {
             rt,
             load_faults: 0,
             save_faults: 0,
-            calls: 0,
+            requests: Requests::new(),
         }
     }
 }
@@ -45,11 +46,11 @@ impl<R: SystemFiles> Files for DiskFiles<R> {
 
     ghost save_faults = { λ f. f.save_faults };
 
-    ghost calls = { λ f. f.calls };
+    ghost requests = { λ f. f.requests.made };
 
     /// At most one byte more than `most` is read. A file that cannot be read counts a fault.
     fn load(&mut self, alloc: Global, name: &str, most: u64) -> Result<Vec<u8>, LoadFault> {
-        self.calls = self.calls.saturating_add(1);
+        self.requests.note_load(name.as_bytes());
         match read_front(alloc, &self.rt, name, most.saturating_add(1)) {
             Ok(text) if text.len() as u64 > most => Err(LoadFault::TooLong),
             Ok(text) => Ok(text),
@@ -62,7 +63,7 @@ impl<R: SystemFiles> Files for DiskFiles<R> {
     }
 
     fn save(&mut self, _alloc: Global, name: &str, bytes: &[u8]) -> Result<(), SaveFault> {
-        self.calls = self.calls.saturating_add(1);
+        self.requests.note_save(name.as_bytes(), bytes);
         match fs::write(&self.rt, name, bytes) {
             Ok(()) => Ok(()),
             Err(_) => {

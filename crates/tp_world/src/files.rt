@@ -3,7 +3,9 @@ ghost use Rattle.std.specs.Str.{bytes_eq};
 ghost use Rattle.tp_world.specs.Counts.{Rose, one_more};
 ghost use Rattle.tp_world.specs.Contents.{KeepsOthers, Stores, content_of, file_of, fails_next};
 ghost use Rattle.tp_world.specs.LoadFaults.{load_faults_after};
+ghost use Rattle.tp_world.specs.Requests.{Request, Load, Save};
 
+use crate::requests::Requests;
 use std::alloc::Global;
 use std::marker::Model;
 use tp_spec::NoMemory;
@@ -35,8 +37,8 @@ pub trait Files {
     /// How often a save failed, up to the greatest `u64`.
     ghost save_faults: { Self → ℕ };
 
-    /// How often a load or a save was asked for, up to the greatest `u64`.
-    ghost calls: { Self → ℕ };
+    /// The loads and saves that were asked for, in order.
+    ghost requests: { Self → List Request };
 
     /// The content of a name, of at most `most` bytes. It changes no content.
     fn load(&mut self, alloc: Global, name: &str, most: u64) -> Result<Vec<u8>, LoadFault>
@@ -50,7 +52,7 @@ pub trait Files {
         ensures contents { contents self.new ≡ contents self.old }
         ensures never_falls { load_faults self.old ≤ load_faults self.new }
         ensures save_faults { save_faults self.new ≡ save_faults self.old }
-        ensures calls { calls self.new ≡ one_more (calls self.old) };
+        ensures requests { requests self.new ≡ requests self.old ++ Load name.now ∷ [] };
 
     /// Gives a name these bytes as its content. After a failure the name may have any content.
     fn save(&mut self, alloc: Global, name: &str, bytes: &[u8]) -> Result<(), SaveFault>
@@ -60,7 +62,7 @@ pub trait Files {
         ensures no_memory { IsErrOf result SaveFault.NoMemory → contents self.new ≡ contents self.old }
         ensures never_falls { save_faults self.old ≤ save_faults self.new }
         ensures load_faults { load_faults self.new ≡ load_faults self.old }
-        ensures calls { calls self.new ≡ one_more (calls self.old) };
+        ensures requests { requests self.new ≡ requests self.old ++ Save name.now bytes.now ∷ [] };
 }
 
 /// Files in memory. Some of the loads and saves fail.
@@ -71,6 +73,7 @@ pub struct MemoryFiles {
     calls: u64,
     load_faults: u64,
     save_faults: u64,
+    requests: Requests,
 }
 
 impl Model for MemoryFiles {
@@ -85,6 +88,7 @@ impl Model for MemoryFiles {
       calls = f.calls;
       load_faults = f.load_faults;
       save_faults = f.save_faults;
+      requests = f.requests.made;
     } };
 }
 
@@ -98,6 +102,7 @@ impl MemoryFiles {
           calls = 0;
           load_faults = 0;
           save_faults = 0;
+          requests = [];
         } }
     {
         MemoryFiles {
@@ -106,6 +111,7 @@ impl MemoryFiles {
             calls: 0,
             load_faults: 0,
             save_faults: 0,
+            requests: Requests::new(),
         }
     }
 
@@ -134,7 +140,7 @@ impl Files for MemoryFiles {
 
     ghost save_faults = { λ f. f.save_faults };
 
-    ghost calls = { λ f. f.calls };
+    ghost requests = { λ f. f.requests };
 
     /// Memory may be refused wherever there is a content to give.
     fn load(&mut self, alloc: Global, name: &str, most: u64) -> Result<Vec<u8>, LoadFault>
@@ -148,9 +154,12 @@ impl Files for MemoryFiles {
         ensures counted { self.new ≡ record self.old {
           calls = one_more self.old.calls;
           load_faults = load_faults_after self.old.load_faults result;
+          requests = self.old.requests ++ Load name.now ∷ [];
         } }
     {
-        if self.fails_now() {
+        let fails = self.fails_now();
+        self.requests.note_load(name.as_bytes());
+        if fails {
             self.load_faults = self.load_faults.saturating_add(1);
             return Err(LoadFault::Failed);
         }
@@ -177,9 +186,12 @@ impl Files for MemoryFiles {
           files = self.new.files;
           calls = one_more self.old.calls;
           save_faults = (if fails_next self.old then one_more self.old.save_faults else self.old.save_faults);
+          requests = self.old.requests ++ Save name.now bytes.now ∷ [];
         } }
     {
-        if self.fails_now() {
+        let fails = self.fails_now();
+        self.requests.note_save(name.as_bytes(), bytes);
+        if fails {
             self.save_faults = self.save_faults.saturating_add(1);
             return Err(SaveFault::Failed);
         }

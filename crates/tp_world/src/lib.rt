@@ -6,6 +6,7 @@ mod adapters;
 mod clock;
 mod files;
 mod gate;
+mod requests;
 mod sink;
 #[cfg(test)]
 mod tests;

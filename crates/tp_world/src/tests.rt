@@ -1,8 +1,9 @@
 //! The traits used through their bounds, the fakes through the traits, and the adapters on the system.
-ghost use Rattle.std.specs.Prelude.{◌≡◌, ℕ, List, ◌++◌, Some, IfSome, IfOk, OnOk, length};
+ghost use Rattle.std.specs.Prelude.{◌≡◌, ℕ, List, [], ◌∷◌, ◌++◌, Some, IfSome, IfOk, OnOk, length};
 ghost use Rattle.std.specs.Io.KnownBytes.{Appends};
 ghost use Rattle.tp_world.specs.Counts.{Rose, count_after};
 ghost use Rattle.tp_world.specs.Readings.{AreNext};
+ghost use Rattle.tp_world.specs.Requests.{Load};
 ghost use Rattle.tp_world.specs.Sinks.{AppendsFront};
 
 use crate::adapters::{DiskFiles, ElapsedClock, PauseGate, StdSink};
@@ -59,6 +60,7 @@ fn put_twice<F: Files, O: Sink, G: Gate>(
         × (content name.now ≡ Some text)
         × AppendsFront (O.held out.old) (O.held out.new) (text ++ text)) }
     ensures contents { F.contents files.new ≡ F.contents files.old }
+    ensures requests { F.requests files.new ≡ F.requests files.old ++ Load name.now ∷ [] }
 {
     let text = match files.load(alloc, name, 64) {
         Ok(text) => text,
@@ -108,6 +110,7 @@ fn one_file(alloc: Global, failing: Vec<u64>) -> Result<MemoryFiles, AllocError>
 fn memory_files_and_sink(rt: HostRuntime) -> Result<(), Fail> {
     let alloc = rt.alloc();
     let mut files = one_file(alloc, vec![in alloc; 1]?)?;
+    can_be_sent(&files);
 
     // The put of number 3 fails after one byte.
     let mut out = MemorySink::new(alloc, vec![in alloc; (3, 1)]?);
@@ -152,6 +155,7 @@ fn disk_files(rt: HostRuntime) {
     let alloc = rt.alloc();
     let name = "disk_files.test";
     let mut files = DiskFiles::new(rt);
+    can_be_sent(&files);
     assert!(rt; files.save(alloc, name, b"plan\nend 5\n").is_ok());
     assert!(rt; files.save(alloc, name, b"plan\n").is_ok());
     assert!(rt; gives(&files.load(alloc, name, 5), b"plan\n"));
