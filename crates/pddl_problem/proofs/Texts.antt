@@ -1,16 +1,20 @@
 -- Words that are joined by blanks can be told apart again.
-use Rattle.std.proofs.Common.{◌≡◌, ◌<◌, ◌^◌, ℕ, ℤ, Bool, true, false, not, ◌&&◌, nat_eq, List, [], ◌∷◌, ◌++◌, unsigned_abs, take, drop, refl, ap, sym, ◌∙◌, arith}
+use Rattle.std.proofs.Common.{◌≡◌, ◌<◌, ◌^◌, ℕ, ℤ, Bool, true, false, not, ◌&&◌, ◌||◌, nat_eq, List, [], ◌∷◌, ◌++◌, unsigned_abs, take, drop, refl, ap, sym, ◌∙◌, arith}
 use Rattle.std.specs.List.{list_all}
 use Rattle.std.specs.Int.{to_be_bytes, from_be_bytes, w64}
 use Rattle.std.proofs.lemmas.Nat.{from_be_bytes-to_be_bytes_8}
 use Rattle.std.proofs.lemmas.Bool.Decides.{nat_tests}
-use Rattle.pddl_tokens.specs.Trees.{Trees, Leaf, Node, End, More}
-use Rattle.pddl_problem.specs.Elements.{joined_words, dated_words, texts_of, has_no_blank, have_no_blank}
+use Rattle.pddl_tokens.specs.Tokens.{is_letter}
+use Rattle.pddl_tokens.specs.Trees.{Trees, Leaf, Node, End, More, have_letters}
+use Rattle.pddl_problem.specs.Elements.{joined_words, dated_words, texts_of}
 
 both : (a b : Bool) → a && b ≡ true → (a ≡ true) × (b ≡ true)
 both true true h = (refl, refl)
 both true false h = absurd (cc)
 both false b h = absurd (cc)
+
+abbrev has_no_blank : List ℕ → Bool
+has_no_blank text = list_all (λ c. not (nat_eq c 32)) text
 
 no_blank_here : (c : ℕ) → not (nat_eq c 32) ≡ true → c ≡ 32 → ⊥
 no_blank_here c h e = grind (arith, nat_tests)
@@ -58,9 +62,28 @@ same_texts (v ∷ vs) (w ∷ ws) p q h =
     let s = same_texts vs ws p2.1 q2.1 r.1 in
     λ i. r.0 i ∷ s i
 
--- words without blanks have one text only if they are the same
-pub same_words : (ts us : Trees) → have_no_blank ts ≡ true → have_no_blank us ≡ true → joined_words ts ≡ joined_words us → texts_of ts ≡ texts_of us
-same_words ts us p q h = same_texts (texts_of ts) (texts_of us) p q (sym (joined_texts ts) ∙ (h ∙ joined_texts us))
+other : (blank a b c d e : Bool) → not ((((blank || a) || b) || c) || d || e) ≡ true → not blank ≡ true
+other true a b c d e h = absurd (cc)
+other false a b c d e h = refl
+
+letters : (text : List ℕ) → list_all is_letter text ≡ true → has_no_blank text ≡ true
+letters [] h = refl
+letters (c ∷ text) h =
+    let h2 = both (is_letter c) (list_all is_letter text) h in
+    ap (λ (b : Bool). b && has_no_blank text) (other (nat_eq c 32) (nat_eq c 9) (nat_eq c 10) (nat_eq c 13) (nat_eq c 40) (nat_eq c 41) h2.0)
+    ∙ letters text h2.1
+
+letter_texts : (ts : Trees) → have_letters ts ≡ true → list_all has_no_blank (texts_of ts) ≡ true
+letter_texts End h = refl
+letter_texts (More (Leaf at text) rest) h =
+    let h2 = both (list_all is_letter text) (have_letters rest) h in
+    ap (λ (b : Bool). b && list_all has_no_blank (texts_of rest)) (letters text h2.0) ∙ letter_texts rest h2.1
+letter_texts (More (Node at close parts) rest) h = letter_texts rest (both (have_letters parts) (have_letters rest) h).1
+
+-- words of letters alone have one text only if they are the same
+pub same_words : (ts us : Trees) → have_letters ts ≡ true → have_letters us ≡ true → joined_words ts ≡ joined_words us → texts_of ts ≡ texts_of us
+same_words ts us p q h =
+    same_texts (texts_of ts) (texts_of us) (letter_texts ts p) (letter_texts us q) (sym (joined_texts ts) ∙ (h ∙ joined_texts us))
 
 eight : (n : ℕ) (x : List ℕ) → take 8 (to_be_bytes w64 n ++ x) ≡ to_be_bytes w64 n
 eight n x = refl

@@ -1,8 +1,7 @@
 -- What an element of `:init` names: a function with its value, or a literal with its time.
-use Rattle.std.specs.Prelude.{ℕ, ℤ, Bool, true, false, not, nat_eq, ◌&&◌, if◌then◌else◌, List, [], ◌∷◌, ◌++◌, Option, None, codes, unsigned_abs}
+use Rattle.std.specs.Prelude.{ℕ, ℤ, Bool, true, false, ◌&&◌, if◌then◌else◌, List, [], ◌∷◌, ◌++◌, Option, None, codes, unsigned_abs}
 use Rattle.std.specs.Int.{to_be_bytes, w64}
 use Rattle.std.specs.Str.{bytes_eq}
-use Rattle.std.specs.List.{list_all}
 use Rattle.std.specs.Result.{result_ok}
 use Rattle.pddl_tokens.specs.Numbers.{number_of}
 use Rattle.pddl_tokens.specs.Trees.{Trees, Leaf, Node, End, More}
@@ -15,7 +14,7 @@ are_words End = true
 are_words (More (Leaf at text) rest) = are_words rest
 are_words (More (Node at close parts) rest) = false
 
--- words as one text: each has a blank behind it, and holds none, so other words make another text
+-- words as one text: each has a blank behind it; words of letters alone hold none, so other words make another text
 abbrev pub joined_words : Trees → List ℕ
 joined_words End = []
 joined_words (More (Leaf at text) rest) = text ++ (32 ∷ joined_words rest)
@@ -26,12 +25,6 @@ abbrev pub texts_of : Trees → List (List ℕ)
 texts_of End = []
 texts_of (More (Leaf at text) rest) = text ∷ texts_of rest
 texts_of (More (Node at close parts) rest) = texts_of rest
-
-abbrev pub has_no_blank : List ℕ → Bool
-has_no_blank text = list_all (λ c. not (nat_eq c 32)) text
-
-abbrev pub have_no_blank : Trees → Bool
-have_no_blank forms = list_all has_no_blank (texts_of forms)
 
 -- the members of a list that comes first
 abbrev pub first_list : Trees → Trees

@@ -1,8 +1,8 @@
 ghost use Rattle.std.specs.Prelude.{◌≡◌, ◌<◌, ◌^◌, ◌++◌, IfOk, true, unsigned_abs, ℕ, ℤ, List as Bytes};
 ghost use Rattle.std.specs.Result.{result_ok};
 ghost use Rattle.pddl_tokens.specs.Numbers.{IsScale};
-ghost use Rattle.pddl_tokens.specs.Trees.{Trees, trees_of};
-ghost use Rattle.pddl_problem.specs.Elements.{are_words, joined_words, first_list, first_number, behind_equal, value_in, behind_at, is_positive, atom_in, literal_in, first_time, time_in, dated_words, texts_of, have_no_blank};
+ghost use Rattle.pddl_tokens.specs.Trees.{Trees, trees_of, have_letters};
+ghost use Rattle.pddl_problem.specs.Elements.{are_words, joined_words, first_list, first_number, behind_equal, value_in, behind_at, is_positive, atom_in, literal_in, first_time, time_in, dated_words, texts_of};
 
 use crate::literals::{is_below_zero, is_dated};
 use pddl_meaning::behind_first;
@@ -204,10 +204,10 @@ pub fn dated_words(alloc: Global, time: i64, words: &[u8]) -> Result<Vec<u8>, No
     with_bytes(with_bytes(Vec::new(alloc), &tick)?, words)
 }
 
-/// Words without blanks have one text only if they are the same words, and a time and an atom's text have one text only if
+/// Words of letters alone have one text only if they are the same words, and a time and an atom's text have one text only if
 /// the tick is the same and the atom's text: so what comes again under a text comes again under what it stands for.
 #[tactic(auto, using(crate::proofs::Texts::same_date))]
 pub fn texts_are_apart()
-    ensures words { (ts us : Trees) → have_no_blank ts ≡ true → have_no_blank us ≡ true → joined_words ts ≡ joined_words us → texts_of ts ≡ texts_of us }
+    ensures words { (ts us : Trees) → have_letters ts ≡ true → have_letters us ≡ true → joined_words ts ≡ joined_words us → texts_of ts ≡ texts_of us }
     ensures dated { (s t : ℤ) (a b : Bytes ℕ) → unsigned_abs s < 2 ^ 64 → unsigned_abs t < 2 ^ 64 → dated_words s a ≡ dated_words t b → (unsigned_abs s ≡ unsigned_abs t) × (a ≡ b) }
 {}

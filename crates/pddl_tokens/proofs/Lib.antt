@@ -1,3 +1,4 @@
 pub mod Growth
+pub mod Letters
 pub mod Unique
 pub mod Values

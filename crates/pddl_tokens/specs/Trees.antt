@@ -1,9 +1,10 @@
 -- A form without its memory, as a tree that definitions go down, and what it spells.
-use Rattle.std.specs.Prelude.{ℕ, suc, ◌+◌, List, [], ◌∷◌, ◌++◌, map}
+use Rattle.std.specs.Prelude.{ℕ, suc, ◌+◌, Bool, true, ◌&&◌, List, [], ◌∷◌, ◌++◌, map}
+use Rattle.std.specs.List.{list_all}
 use Rattle.pddl_tokens.specs.declared.form.Form.{Form}
 use Rattle.pddl_tokens.specs.declared.form.Form.TheOpen.{Form-F}
 use Rattle.pddl_tokens.specs.declared.form.Form.TheFolds.{fold-Form}
-use Rattle.pddl_tokens.specs.Tokens.{Token, Opens, Closes, Spells}
+use Rattle.pddl_tokens.specs.Tokens.{Token, Opens, Closes, Spells, is_letter}
 
 -- a word with its place, or a list with the places of its parentheses; a row of them
 mutual
@@ -40,6 +41,16 @@ abbrev mutual
   pub all_spelled : Trees → List Token
   all_spelled End = []
   all_spelled (More t rest) = spelled t ++ all_spelled rest
+
+-- whether all words of a tree are of letters alone: of no white space and no parenthesis
+abbrev mutual
+  pub has_letters : Tree → Bool
+  has_letters (Leaf at text) = list_all is_letter text
+  has_letters (Node at close parts) = have_letters parts
+
+  pub have_letters : Trees → Bool
+  have_letters End = true
+  have_letters (More t rest) = has_letters t && have_letters rest
 
 -- how many steps a walk over a tree takes at most
 abbrev mutual

@@ -1,7 +1,7 @@
-ghost use Rattle.std.specs.Prelude.{◌≡◌, ◌<◌, ◌≤◌, ◌+◌, ◌^◌, ℕ, List, Option, [], ◌∷◌, ◌++◌, length, take, vec_len, IfOk, OnOk, IfErr};
+ghost use Rattle.std.specs.Prelude.{◌≡◌, ◌<◌, ◌≤◌, ◌+◌, ◌^◌, ℕ, List, Option, [], ◌∷◌, ◌++◌, length, take, vec_len, IfOk, OnOk, IfErr, IsTrue};
 ghost use Rattle.std.specs.Str.Lossy.{utf8_valid_len};
 ghost use Rattle.pddl_tokens.specs.Tokens.{tokens_from, tokens_of_text};
-ghost use Rattle.pddl_tokens.specs.Trees.{trees_of, all_spelled};
+ghost use Rattle.pddl_tokens.specs.Trees.{trees_of, all_spelled, have_letters};
 ghost use Rattle.pddl_tokens.specs.Faults.{fault_from, fault_of, bad_byte, Gives};
 ghost use Rattle.pddl_tokens.specs.Building.{read_so_far, stack_of, IsFaultAt};
 
@@ -73,10 +73,11 @@ fn valid_part(text: &[u8]) -> (&[u8], Option<u32>)
 
 /// The words and lists that a text spells, or the text's first fault in the order of its bytes; a list that is never
 /// closed comes last, by its innermost open parenthesis. It takes time linear in the text, and no deep stack.
-#[tactic(auto, using(crate::proofs::Growth::whole))]
+#[tactic(auto, using(crate::proofs::Growth::whole, crate::proofs::Letters::spelled_letters))]
 pub fn read_forms(alloc: Global, text: &[u8]) -> Result<Forms, TextFault>
     requires { length text.now < 2 ^ 31 }
     ensures found { IfOk result (λ f. all_spelled (trees_of f.forms) ≡ tokens_of_text text.now) }
+    ensures letters { IfOk result (λ f. IsTrue (have_letters (trees_of f.forms))) }
     ensures bytes { IfOk result (λ f. f.bytes ≡ length text.now) }
     ensures fault { Gives result (fault_of text.now) }
 {
