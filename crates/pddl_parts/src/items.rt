@@ -1,4 +1,4 @@
-ghost use Rattle.std.specs.Prelude.{◌≡◌, IfOk};
+ghost use Rattle.std.specs.Prelude.{◌≡◌, ◌≤◌, ◌^◌, IfOk, OnErr};
 ghost use Rattle.pddl_tokens.specs.Trees.{trees_of};
 ghost use Rattle.pddl_parts.specs.Items.{with_items};
 
@@ -37,7 +37,8 @@ pub fn with_items(
 
 /// A number of something in 32 bits. More than those hold would not fit in memory.
 pub fn in_32_bits(number: usize) -> Result<u32, NoMemory>
-    ensures { IfOk result (λ n. n ≡ number) }
+    ensures number { IfOk result (λ n. n ≡ number) }
+    ensures many { OnErr result (2 ^ 32 ≤ number) }
 {
     match u32::try_from(number) {
         Ok(number) => Ok(number),

@@ -39,7 +39,7 @@ pub use members::{
 pub use names::Names;
 pub use scope::Scope;
 pub use table::Table;
-pub use timed::timed_fault;
+pub use timed::{timed_fault, unlabelled_fault};
 pub use typed::{
     Part, Rule, end_fault, enter_item, is_item, next, next_of_list, repeat_fault, typed_fault,
 };

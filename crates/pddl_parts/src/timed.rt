@@ -71,8 +71,9 @@ fn is_literal(effects: bool, parts: &[Form]) -> bool
     }
 }
 
-/// The first fault of a list at `at` that begins with `not`.
-fn unlabelled_fault(effects: bool, at: u32, head: u32, members: &[Form]) -> Option<Fault>
+/// The first fault of a list at `at` that begins with `not`, at byte `head`, where `not` has no form: it is left out before
+/// all but an atom or an object equality.
+pub fn unlabelled_fault(effects: bool, at: u32, head: u32, members: &[Form]) -> Option<Fault>
     ensures { result ≡ first (unlabelled_faults effects at head (trees_of members.now)) }
 {
     match head_of(members) {
