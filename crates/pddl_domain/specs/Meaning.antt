@@ -24,13 +24,13 @@ use Rattle.pddl_domain.specs.declared.domain.Sort.{Sort}
 use Rattle.pddl_domain.specs.declared.domain.Head.{Head}
 use Rattle.pddl_domain.specs.declared.domain.Schema.{Schema}
 use Rattle.pddl_domain.specs.declared.domain.Domain.{Domain}
-use Rattle.pddl_domain.specs.Heads.{parameters, behind_word, behind_list, with_listed}
-use Rattle.pddl_domain.specs.Sections.{objects}
-use Rattle.pddl_domain.specs.Types.{type_names, parents_of}
-use Rattle.pddl_domain.specs.Parts.{is_action, is_durative, part_of}
-use Rattle.pddl_domain.specs.Actions.{variables_of}
+use Rattle.domain_faults.specs.Heads.{parameters, behind_word, behind_list, with_listed}
+use Rattle.domain_faults.specs.Sections.{objects}
+use Rattle.domain_faults.specs.Types.{type_names, parents_of}
+use Rattle.domain_faults.specs.Parts.{is_action, is_durative, part_of}
+use Rattle.domain_faults.specs.Actions.{variables_of}
 use Rattle.pddl_domain.specs.Bounds.{duration_of, timed_condition, timed_effect}
-use Rattle.pddl_domain.specs.Passes.{sections_of}
+use Rattle.domain_faults.specs.Passes.{sections_of}
 
 -- the names of the heads among the members of `:predicates`, or of `:functions`, where numbers may be named
 abbrev pub with_head_names : Bool → List (List ℕ) → Part → Trees → List (List ℕ)

@@ -4,19 +4,17 @@ ghost use Rattle.pddl_tokens.specs.Trees.{trees_of};
 ghost use Rattle.pddl_parts.specs.Tables.{value_of};
 ghost use Rattle.pddl_meaning.specs.Terms.{or_zero};
 ghost use Rattle.pddl_meaning.specs.Groups.{sorts_from};
-ghost use Rattle.pddl_domain.specs.Heads.{parameters};
-ghost use Rattle.pddl_domain.specs.Parts.{part_of};
+ghost use Rattle.domain_faults.specs.Heads.{parameters};
+ghost use Rattle.domain_faults.specs.Parts.{part_of};
 ghost use Rattle.pddl_domain.specs.Meaning.{head_names, symbols_of, each_sort, head_in, head_at, heads_from, instant_of, conditions_in, effects_in, bounds_in, durative_from, durative_of, schema_of, named_schema, section_schema, schemas_of, first_word, first_parts, domain_name, domain_from, domain_of};
 
-use crate::actions::variables_of;
 use crate::bounds::duration_of;
 use crate::domain::{Bound, Domain, Head, Schema, Sort};
-use crate::heads::{behind_list, behind_word, enter_listed};
 use crate::labels::{timed_condition, timed_effect};
-use crate::parents::parents_of;
-use crate::parts::{is_action, is_durative, part_of};
-use crate::passes::sections_of;
-use crate::types::type_names;
+use domain_faults::{
+    behind_list, behind_word, enter_listed, is_action, is_durative, parents_of, part_of,
+    sections_of, type_names, variables_of,
+};
 use pddl_meaning::{
     Change, Condition, Symbols, behind_first, name_of, objects_of, sorts_of, with_condition,
     with_effect,

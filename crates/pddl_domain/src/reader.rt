@@ -1,12 +1,12 @@
 ghost use Rattle.std.specs.Prelude.{◌≡◌, IfOk};
 ghost use Rattle.pddl_tokens.specs.Numbers.{IsScale};
 ghost use Rattle.pddl_tokens.specs.Trees.{trees_of};
-ghost use Rattle.pddl_domain.specs.Passes.{domain_fault};
+ghost use Rattle.domain_faults.specs.Passes.{domain_fault};
 ghost use Rattle.pddl_domain.specs.Meaning.{domain_of, Gives};
 
 use crate::domain::Domain;
 use crate::meaning::domain_of;
-use crate::passes::domain_fault;
+use domain_faults::domain_fault;
 use pddl_parts::PddlFault;
 use pddl_tokens::Forms;
 use std::alloc::Global;

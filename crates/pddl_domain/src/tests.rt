@@ -1,9 +1,69 @@
+ghost use Rattle.pddl_tokens.specs.Numbers.{IsScale};
+
+mod actions;
+mod conditions;
+mod counts;
+mod durations;
+mod effects;
+mod expressions;
+mod forms;
+mod heads;
+mod labels;
+mod left_out;
+mod passes;
+mod scales;
+mod types;
+
 use crate::domain::Bound;
 use crate::reader::read_domain;
 use pddl_meaning::Value;
 use pddl_parts::PddlFault;
 use pddl_tokens::read_forms;
+use std::alloc::Global;
 use std::test::Fail;
+
+/// A row `FAULT|PART` of a table, with the first fault that a domain has with this part in it, or `none`.
+pub fn judged(
+    alloc: Global,
+    before: &str,
+    row: &str,
+    behind: &str,
+    scale: u32,
+) -> Result<String, Fail>
+    requires scale { IsScale scale }
+{
+    let (_, part) = row.split_once('|').unwrap_or((row, ""));
+    let text = format!(in alloc; "{before}{part}{behind}")?;
+    if text.len() >= 100_000 {
+        return Err(Fail::new("a text of a table is too long"));
+    }
+    let forms = read_forms(alloc, text.as_bytes())?;
+    match read_domain(alloc, &forms, scale) {
+        Ok(_) => Ok(format!(in alloc; "none|{part}")?),
+        Err(fault) => Ok(format!(in alloc; "{fault:?}|{part}")?),
+    }
+}
+
+/// How many rows of a table hold, or the first that does not, as it should be.
+pub fn all_judged(
+    alloc: Global,
+    before: &str,
+    table: &str,
+    behind: &str,
+    scale: u32,
+) -> Result<String, Fail>
+    requires scale { IsScale scale }
+{
+    let mut number = 0u32;
+    for row in table.lines() {
+        let judged = judged(alloc, before, row, behind, scale)?;
+        if judged.as_str() != row {
+            return Ok(judged);
+        }
+        number = number.wrapping_add(1);
+    }
+    Ok(format!(in alloc; "{number} rows hold")?)
+}
 
 /// Texts, each with its first fault at scale 1, or none.
 const TABLE: &str = "Shape { at: 0 }|
@@ -121,19 +181,8 @@ none|(define (domain d) (:types t - object u - t) (:constants c - t) (:predicate
 
 #[test]
 fn first_faults(rt: HostRuntime) -> Result<(), Fail> {
-    let mut number = 0u32;
-    for line in TABLE.lines() {
-        let (want, text) = line.split_once('|').unwrap_or((line, ""));
-        assert!(rt; text.len() < 1000);
-        let forms = read_forms(rt.alloc(), text.as_bytes())?;
-        let shown = match read_domain(rt.alloc(), &forms, 1) {
-            Ok(_) => format!(in rt.alloc(); "none")?,
-            Err(fault) => format!(in rt.alloc(); "{fault:?}")?,
-        };
-        assert_eq!(rt; shown.as_str(), want, "{text}");
-        number = number.wrapping_add(1);
-    }
-    assert_eq!(rt; number, 112);
+    let told = all_judged(rt.alloc(), "", TABLE, "", 1)?;
+    assert_eq!(rt; told.as_str(), "112 rows hold");
     Ok(())
 }
 

@@ -10,7 +10,7 @@ use Rattle.pddl_meaning.specs.declared.groups.Object.{Object}
 use Rattle.pddl_domain.specs.declared.domain.Sort.{Sort}
 use Rattle.pddl_domain.specs.declared.domain.Head.{Head}
 use Rattle.pddl_domain.specs.declared.domain.Domain.{Domain}
-use Rattle.pddl_domain.specs.Sections.{objects}
+use Rattle.domain_faults.specs.Sections.{objects}
 
 -- the names of types
 abbrev pub with_sorts : List (List ℕ) → List Sort → List (List ℕ)

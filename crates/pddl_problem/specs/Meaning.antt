@@ -15,7 +15,7 @@ use Rattle.pddl_meaning.specs.Groups.{objects_from}
 use Rattle.pddl_meaning.specs.Conditions.{condition_of}
 use Rattle.pddl_domain.specs.declared.domain.Head.{Head}
 use Rattle.pddl_domain.specs.declared.domain.Domain.{Domain}
-use Rattle.pddl_domain.specs.Sections.{objects}
+use Rattle.domain_faults.specs.Sections.{objects}
 use Rattle.pddl_problem.specs.declared.task.Given.{Given}
 use Rattle.pddl_problem.specs.declared.task.Dated.{Dated}
 use Rattle.pddl_problem.specs.declared.task.Task.{Task}

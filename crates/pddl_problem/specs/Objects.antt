@@ -10,7 +10,7 @@ use Rattle.pddl_parts.specs.Names.{with_name, is_new}
 use Rattle.pddl_parts.specs.Tables.{value_of}
 use Rattle.pddl_parts.specs.Typed.{typed_faults, is_item, next, next_of_list}
 use Rattle.pddl_meaning.specs.Groups.{parent_behind}
-use Rattle.pddl_domain.specs.Sections.{objects}
+use Rattle.domain_faults.specs.Sections.{objects}
 
 -- an object again, where it is no constant that has this type: a new one must be new
 abbrev pub again_object : Option ℕ → Option ℕ → List (List ℕ) → ℕ → List ℕ → List Fault

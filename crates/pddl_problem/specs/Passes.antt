@@ -11,7 +11,7 @@ use Rattle.pddl_parts.specs.Members.{surplus_faults, members_of}
 use Rattle.pddl_parts.specs.Conditions.{condition_faults}
 use Rattle.pddl_meaning.specs.Terms.{behind_first}
 use Rattle.pddl_domain.specs.declared.domain.Domain.{Domain}
-use Rattle.pddl_domain.specs.Passes.{in_passes}
+use Rattle.domain_faults.specs.Passes.{in_passes}
 use Rattle.pddl_problem.specs.Known.{scope_of}
 use Rattle.pddl_problem.specs.Outer.{declared_faults}
 use Rattle.pddl_problem.specs.Init.{elements_faults}

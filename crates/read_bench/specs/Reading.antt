@@ -4,7 +4,7 @@ use Rattle.pddl_tokens.specs.Tokens.{tokens_of_text}
 use Rattle.pddl_tokens.specs.Trees.{Trees, all_spelled}
 use Rattle.pddl_tokens.specs.Faults.{fault_of, Gives as GivesText}
 use Rattle.pddl_tokens.specs.declared.form.Forms.{Forms}
-use Rattle.pddl_domain.specs.Passes.{domain_fault}
+use Rattle.domain_faults.specs.Passes.{domain_fault}
 use Rattle.pddl_domain.specs.Meaning.{domain_of, Gives}
 use Rattle.pddl_domain.specs.declared.domain.Domain.{Domain as DomainValue}
 use Rattle.pddl_problem.specs.Passes.{problem_fault}

@@ -2,7 +2,7 @@ use Rattle.std.proofs.Common.{◌≡◌, IfOk, List, codes, ap, subst, ◌∙◌
 use Rattle.pddl_tokens.specs.Trees.{trees_of}
 use Rattle.pddl_parts.specs.Members.{members_of}
 use Rattle.pddl_domain.specs.declared.domain.Domain.{Domain}
-use Rattle.pddl_domain.specs.Types.{type_names}
+use Rattle.domain_faults.specs.Types.{type_names}
 use Rattle.pddl_domain.specs.Meaning.{symbols_of, domain_from, domain_of}
 use Rattle.pddl_domain.proofs.meaning.domain_of.Goals as goal
 

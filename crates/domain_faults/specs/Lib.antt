@@ -1,0 +1,13 @@
+pub mod Types
+pub mod Walks
+pub mod Cycles
+pub mod Heads
+pub mod Parts
+pub mod Sections
+pub mod Outer
+pub mod Durations
+pub mod Places
+pub mod Written
+pub mod Actions
+pub mod Scopes
+pub mod Passes

@@ -1,9 +1,0 @@
-use Rattle.std.proofs.Common.{ℕ, ◌<◌, get_or}
-use Rattle.pddl_domain.specs.Walks.{IsKnown}
-use Rattle.pddl_domain.proofs.ancestors.search.Given as goal
-
-abbrev pub invariant-loop-start : goal.invariant-loop-start
-invariant-loop-start l = record {
-  known : IsKnown l.above l.places l.order l.marks;
-  met : (v : ℕ) → v < l.start → 0 < get_or l.places v 0;
-}
