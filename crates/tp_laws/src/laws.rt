@@ -6,8 +6,9 @@ pub fn nothing_happens()
     ensures ticks { QuietTicksChangeNothing }
 {}
 
-/// The order in which a happening's items are listed changes nothing, since no two of them interfere, and they do
-/// together what they do one after another.
+/// The order in which a happening's items are listed changes nothing, since no two of them
+/// interfere. Together they do what they do one after another, where no value in between is held to
+/// 64 bits: only the values after the last of them are.
 ///
 /// PDDL 2.1, section 6 (a happening is a set of actions).
 pub fn order_of_items()

@@ -15,6 +15,7 @@ use Rattle.tp_spec.specs.declared.problem.Kind.TheVariants.{Instant, Durative}
 use Rattle.tp_spec.specs.declared.problem.Problem.{Problem}
 use Rattle.tp_spec.specs.declared.problem.TimedItem.{TimedItem}
 use Rattle.tp_spec.specs.States.{State, value, holds, of_both}
+use Rattle.tp_spec.specs.WellFormed.{is_value}
 
 -- The items of a problem: its timed items, and the end and the start of each action. (The end of an instant action
 -- never stands anywhere.)
@@ -111,9 +112,9 @@ next s es = record {
   fluent = λ x. changed s x es;
 }
 
+-- whether a new value is within 64 bits; what is not defined stays so
 abbrev pub fits : Option ℤ → Bool
-fits None = true
-fits (Some z) = int_le (negsuc (2 ^ 63 - 1)) z && int_le z (pos (2 ^ 63 - 1))
+fits value = is_value value
 
 -- whether the new value of the fluent that an effect changes is within 64 bits
 abbrev pub fits_new : State → Effect → Bool

@@ -81,12 +81,14 @@ candidate before commits (x ∷ xs) =
     then candidate (before ++ x ∷ []) commits xs
     else Some x
 
--- The commit rule: the best node is urgent where its candidate's tick in the greatest schedule is at most the clock
--- plus the lead; the act that is due has this tick and the length that this schedule gives.
+-- The commit rule: the best node is urgent where it is live and its candidate's tick in the greatest
+-- schedule is at most the clock plus the lead; the act that is due has this tick and the length that
+-- this schedule gives.
 -- This project's own.
 pub record IsDue (p : Problem) (l : Limits) (m : Machine) (act : Timed) : Type 0 where
   pub node : Node
   pub best : IsBest p m.nodes node
+  pub live : Live p l m.now m.commits node.word
   pub schedule : Schedule
   pub greatest : IsGreatest p l m.now m.commits node.word schedule
   pub next : Act

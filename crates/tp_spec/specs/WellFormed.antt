@@ -1,5 +1,5 @@
 -- Ground problems, and which of them are well formed: those that have a canonical ground text.
-use Rattle.std.specs.Prelude.{◌≡◌, ℕ, ℤ, ◌+◌, ◌^◌, Bool, true, false, not, ◌&&◌, ◌||◌, ◌==◌, nat_le, nat_lt, max, List, [], ◌∷◌, length, Option, IsTrue, bytes_eq, if◌then◌else◌}
+use Rattle.std.specs.Prelude.{◌≡◌, ℕ, ℤ, pos, negsuc, int_le, ◌+◌, ◌-◌, ◌^◌, Bool, true, false, not, ◌&&◌, ◌||◌, ◌==◌, nat_le, nat_lt, max, List, [], ◌∷◌, length, Option, Some, None, IsTrue, bytes_eq, if◌then◌else◌}
 use Rattle.std.specs.List.{list_any, list_all}
 use Rattle.std.specs.Ordering.{is_lt, nat_cmp}
 use Rattle.std.specs.Cmp.Lexicographic.{slice_cmp}
@@ -55,15 +55,24 @@ depth_at (Expr-F.Difference a b) = 1 + max a b
 abbrev pub depth : Expr → ℕ
 depth e = fold-Expr ℕ depth_at e
 
-abbrev pub names_below_at : ℕ → Expr-F Bool → Bool
-names_below_at n (Expr-F.Number z) = true
-names_below_at n (Expr-F.Fluent x) = nat_lt x n
-names_below_at n (Expr-F.Sum a b) = a && b
-names_below_at n (Expr-F.Difference a b) = a && b
+-- a number of 64 bits with a sign
+abbrev pub is_i64 : ℤ → Bool
+is_i64 z = int_le (negsuc (2 ^ 63 - 1)) z && int_le z (pos (2 ^ 63 - 1))
 
--- an expression over the first n fluents, at most 32 operations deep
+-- the value of a fluent at the start: a number of 64 bits with a sign, or none
+abbrev pub is_value : Option ℤ → Bool
+is_value None = true
+is_value (Some z) = is_i64 z
+
+abbrev pub is_expr_at : ℕ → Expr-F Bool → Bool
+is_expr_at n (Expr-F.Number z) = is_i64 z
+is_expr_at n (Expr-F.Fluent x) = nat_lt x n
+is_expr_at n (Expr-F.Sum a b) = a && b
+is_expr_at n (Expr-F.Difference a b) = a && b
+
+-- an expression over the first n fluents and numbers of 64 bits, at most 32 operations deep
 abbrev pub is_expr : ℕ → Expr → Bool
-is_expr n e = fold-Expr Bool (names_below_at n) e && nat_le (depth e) 32
+is_expr n e = fold-Expr Bool (is_expr_at n) e && nat_le (depth e) 32
 
 -- conditions and effects over the first f facts and n fluents
 abbrev pub is_cond : ℕ → ℕ → Cond → Bool
@@ -114,8 +123,10 @@ is_timed f t = not (is_empty t.adds && is_empty t.deletes)
     && each_next nat_lt t.adds && each_next nat_lt t.deletes
     && list_all (λ x. not (list_any (λ y. x == y) t.deletes)) t.adds
 
--- The rules of the canonical ground text, one by one.
--- PDDL 2.1, section 2, grounded; the limits, the order of names and the separation into ticks are this project's own.
+-- The rules of the canonical ground text, one by one, the ranges of its numbers among them: what each
+-- `Problem` keeps.
+-- PDDL 2.1, section 2, grounded; the limits, the order of names and the separation into ticks are
+-- this project's own.
 pub record IsWellFormed (p : Ground) : Type 0 where
   pub scaled : IsTrue (p.scale == 1 || p.scale == 10 || p.scale == 100 || p.scale == 1000)
   pub fact_names : IsTrue (nat_le (length p.facts) 4096 && list_all is_name p.facts && each_next name_before p.facts)
@@ -123,6 +134,8 @@ pub record IsWellFormed (p : Ground) : Type 0 where
   pub acting : IsTrue (nat_le (length p.actions) 4096 && list_all (is_action (length p.facts) (length p.fluents)) p.actions)
   pub told_apart : IsTrue (each_pair (λ a b. not (bytes_eq a.name b.name)) p.actions)
   pub timing : IsTrue (nat_le (length p.timed) 256 && list_all (is_timed (length p.facts)) p.timed && each_next (λ s t. nat_lt s.tick t.tick) p.timed)
+  pub ticks_fit : IsTrue (list_all (λ t. nat_lt t.tick (2 ^ 64)) p.timed)
   pub starting : IsTrue (list_all (λ f. nat_lt f (length p.facts)) p.init && each_next nat_lt p.init)
   pub valued : length p.values ≡ length p.fluents
+  pub values_fit : IsTrue (list_all is_value p.values)
   pub aiming : IsTrue (nat_lt (length p.goal) (2 ^ 31) && list_all (is_cond (length p.facts) (length p.fluents)) p.goal)

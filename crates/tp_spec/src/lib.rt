@@ -3,12 +3,14 @@
 
 mod event;
 mod expr;
+mod fault;
 mod list;
 mod plan;
 mod problem;
 
 pub use event::{Cause, Event};
 pub use expr::Expr;
+pub use fault::LineFault;
 pub use list::{List, Name, NoMemory};
 pub use plan::{Item, Limits, Mark, Plan, Timed};
 pub use problem::{Action, Cond, Effect, How, Kind, Op, Problem, TimedItem};

@@ -1,11 +1,17 @@
 ghost use Rattle.std.specs.Prelude.{◌≡◌, [], ◌∷◌, ◌++◌, length, IfOk, OnOk, OnErr};
 
-use std::alloc::Global;
+use std::alloc::{AllocError, Global};
 use std::marker::Model;
 
 /// Memory was refused.
 #[derive(Clone, Copy, Debug, PartialEq, Eq)]
 pub struct NoMemory;
+
+impl From<AllocError> for NoMemory {
+    fn from(_refused: AllocError) -> NoMemory {
+        NoMemory
+    }
+}
 
 /// A vector that contracts see as the list of its elements, whatever its capacity.
 #[derive(Debug, Drop)]
@@ -89,10 +95,8 @@ impl Name {
     pub fn of(alloc: Global, text: &str) -> Result<Name, NoMemory>
         ensures { IfOk result (λ n. n ≡ text.now) }
     {
-        match String::from_str(alloc, text) {
-            Ok(text) => Ok(Name { text }),
-            Err(_) => Err(NoMemory),
-        }
+        let text = String::from_str(alloc, text)?;
+        Ok(Name { text })
     }
 
     /// Its text.

@@ -27,10 +27,11 @@ pub struct Plan {
 }
 
 /// What may happen at a tick: a timed item, the end of a durative action, or the start of an action, each by its
-/// index in the problem.
+/// index in the problem. Their order is the item order: timed items, ends, starts, each kind by its
+/// number.
 ///
 /// The snap actions of PDDL 2.1, section 5; the timed initial literals of PDDL 2.2.
-#[derive(Clone, Copy, Debug, PartialEq, Eq)]
+#[derive(Clone, Copy, Debug, PartialEq, Eq, PartialOrd, Ord)]
 pub enum Item {
     TimedAt(u32),
     End(u32),

@@ -1,5 +1,11 @@
+ghost use Rattle.std.specs.Prelude.{◌≡◌, slice_get};
+ghost use Rattle.std.specs.Option.{option_copied};
+ghost use Rattle.tp_spec.specs.Items.{conditions, invariants};
+ghost use Rattle.tp_spec.specs.WellFormed.{IsWellFormed};
+
 use crate::expr::Expr;
 use crate::list::{List, Name};
+use crate::plan::Item;
 use std::marker::Model;
 
 /// How two numbers are compared.
@@ -94,4 +100,57 @@ impl Model for Problem {
     ghost view = { λ p. record { scale = p.scale; facts = p.facts; fluents = p.fluents; actions = p.actions; timed = p.timed; init = p.init; values = p.values; goal = p.goal } };
 
     ghost invariant = { λ p. IsWellFormed (record { scale = p.scale; facts = p.facts; fluents = p.fluents; actions = p.actions; timed = p.timed; init = p.init; values = p.values; goal = p.goal }) };
+}
+
+impl Problem {
+    /// Each problem keeps the rules of the canonical ground text. A proof learns this by itself only
+    /// where a field is read, else by this call, which does nothing.
+    pub fn keeps_the_rules(&self)
+        ensures { IsWellFormed self.now }
+    {
+        let _scale = self.scale;
+    }
+
+    /// An action by its number, none where the problem has fewer.
+    pub fn action(&self, number: u32) -> Option<&Action>
+        ensures { option_copied result ≡ slice_get self.now.actions number }
+    {
+        self.actions.as_slice().get(number as usize)
+    }
+
+    /// A timed item by its number, none where the problem has fewer.
+    pub fn timed_item(&self, number: u32) -> Option<&TimedItem>
+        ensures { option_copied result ≡ slice_get self.now.timed number }
+    {
+        self.timed.as_slice().get(number as usize)
+    }
+
+    /// The conditions that are written for an item: of a timed item none, of the start or the end of
+    /// an action those before it; none for a number that the problem does not have.
+    pub fn conditions(&self, item: Item) -> &[Cond]
+        ensures { result.now ≡ conditions self.now item }
+    {
+        match item {
+            Item::TimedAt(_) => &[],
+            Item::End(number) => match self.action(number) {
+                Some(action) => action.end_conds.as_slice(),
+                None => &[],
+            },
+            Item::Start(number) => match self.action(number) {
+                Some(action) => action.start_conds.as_slice(),
+                None => &[],
+            },
+        }
+    }
+
+    /// What is asked of each state while an action runs; nothing for a number that the problem does
+    /// not have.
+    pub fn invariants(&self, number: u32) -> &[Cond]
+        ensures { result.now ≡ invariants self.now number }
+    {
+        match self.action(number) {
+            Some(action) => action.all_conds.as_slice(),
+            None => &[],
+        }
+    }
 }
