@@ -2,12 +2,14 @@
 #![tactic(auto)]
 
 mod event;
+mod examples;
 mod expr;
 mod list;
 mod plan;
 mod problem;
 
 pub use event::{Cause, Event};
+pub use examples::{courses, interference, items, plans, states};
 pub use expr::Expr;
 pub use list::{List, Name, NoMemory};
 pub use plan::{Item, Limits, Mark, Plan, Timed};

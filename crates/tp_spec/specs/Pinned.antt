@@ -1,0 +1,300 @@
+-- What the definitions say of small cases, both where a thing holds and where it does not.
+use Rattle.std.specs.Prelude.{◌≡◌, ℕ, ◌^◌, ◌-◌, Bool, true, false, not, List, [], ◌∷◌, map, Option, Some, None, ℤ, pos, negsuc}
+use Rattle.std.specs.Option.{option_map}
+use Rattle.tp_spec.specs.declared.expr.Expr.{Expr}
+use Rattle.tp_spec.specs.declared.expr.Expr.TheVariants.{Number, Fluent, Difference}
+use Rattle.tp_spec.specs.declared.expr.Expr.TheOpen.{Expr-F}
+use Rattle.tp_spec.specs.declared.plan.Item.{Item}
+use Rattle.tp_spec.specs.declared.plan.Item.TheVariants.{TimedAt, Start, End}
+use Rattle.tp_spec.specs.declared.plan.Timed.{Timed}
+use Rattle.tp_spec.specs.declared.problem.Cond.TheVariants.{Lit, Compare}
+use Rattle.tp_spec.specs.declared.problem.Effect.{Effect}
+use Rattle.tp_spec.specs.declared.problem.Effect.TheVariants.{Add, Delete, Change}
+use Rattle.tp_spec.specs.declared.problem.How.{How}
+use Rattle.tp_spec.specs.declared.problem.How.TheVariants.{Increase, Decrease, Assign}
+use Rattle.tp_spec.specs.declared.problem.Op.{Op}
+use Rattle.tp_spec.specs.declared.problem.Op.TheVariants.{Less, LessEq, Equal, MoreEq, More}
+use Rattle.tp_spec.specs.States.{State, initial, value, value_at, compares, holds}
+use Rattle.tp_spec.specs.Items.{all_items, item_before, is_durative, effects, conditions, invariants, is_defined, own, changed, next, fits, has_after}
+use Rattle.tp_spec.specs.Interference.{disturbs, collides, interfere}
+use Rattle.tp_spec.specs.Courses.{in_range, happening, runs_at, act_before, state_before, state_after, Passes, Valid, has_act, Possible}
+use Rattle.tp_spec.specs.Samples.{sample, two, mixed, sharing, raising, act, plan, limits, guarded}
+
+-- 1 compared with 2, with 1, and 2 with 1
+abbrev pub outcomes : Op → List Bool
+outcomes op = compares op (pos 1) (pos 2) ∷ compares op (pos 1) (pos 1) ∷ compares op (pos 2) (pos 1) ∷ []
+
+-- Each comparison has the left side first.
+abbrev pub Comparisons : Type 0
+Comparisons = (outcomes Less ≡ true ∷ false ∷ false ∷ [])
+    × (outcomes LessEq ≡ true ∷ true ∷ false ∷ [])
+    × (outcomes Equal ≡ false ∷ true ∷ false ∷ [])
+    × (outcomes MoreEq ≡ false ∷ true ∷ true ∷ [])
+    × (outcomes More ≡ false ∷ false ∷ true ∷ [])
+
+-- A sum and a difference of parts, each undefined where a part is.
+abbrev pub Operations : Type 0
+Operations = (s : State) → (value_at s (Expr-F.Sum (Some (pos 5)) (Some (pos 2))) ≡ Some (pos 7))
+    × (value_at s (Expr-F.Difference (Some (pos 5)) (Some (pos 2))) ≡ Some (pos 3))
+    × (value_at s (Expr-F.Difference (Some (pos 2)) (Some (pos 5))) ≡ Some (negsuc 2))
+    × (value_at s (Expr-F.Sum (Some (pos 5)) None) ≡ None)
+    × (value_at s (Expr-F.Difference None (Some (pos 2))) ≡ None)
+
+-- A fluent less a number.
+abbrev pub Values : Type 0
+Values = value (sample (Some (pos 5)) None) (Difference (Fluent 0) two) ≡ Some (pos 3)
+
+-- A literal by membership, a negated one by its absence.
+abbrev pub Literals : Type 0
+Literals = map (holds (sample None None)) (Lit 0 true ∷ Lit 0 false ∷ Lit 1 true ∷ Lit 1 false ∷ []) ≡ true ∷ false ∷ false ∷ true ∷ []
+
+-- No comparison holds where a side is undefined.
+abbrev pub UndefinedCompares : Type 0
+UndefinedCompares = (op : Op) (e : Expr) → holds (sample None None) (Compare op (Fluent 0) e) ≡ false
+
+-- The facts of `init` are true at the start, and a fluent has its value there, or none.
+abbrev pub StartStates : Type 0
+StartStates = (map (initial (raising (Some (pos 5) ∷ None ∷ []))).fact (0 ∷ 1 ∷ []) ≡ true ∷ false ∷ [])
+    × (map (initial (raising (Some (pos 5) ∷ None ∷ []))).fluent (0 ∷ 1 ∷ 2 ∷ []) ≡ Some (pos 5) ∷ None ∷ None ∷ [])
+
+-- Timed items come first, then ends, then starts, each by number; no item is before itself.
+abbrev pub ItemOrder : Type 0
+ItemOrder = (all_items mixed ≡ TimedAt 0 ∷ TimedAt 1 ∷ End 0 ∷ End 1 ∷ Start 0 ∷ Start 1 ∷ [])
+    × (map (item_before (End 0)) (all_items mixed) ≡ false ∷ false ∷ false ∷ true ∷ true ∷ true ∷ [])
+    × (map (item_before (Start 0)) (all_items mixed) ≡ false ∷ false ∷ false ∷ false ∷ false ∷ true ∷ [])
+    × (map (item_before (TimedAt 1)) (all_items mixed) ≡ false ∷ false ∷ true ∷ true ∷ true ∷ true ∷ [])
+
+-- What each item does and asks, what is asked while an action runs, and which actions last.
+abbrev pub Parts : Type 0
+Parts = (effects mixed (TimedAt 0) ≡ Add 17 ∷ Delete 18 ∷ [])
+    × (effects mixed (Start 0) ≡ Add 13 ∷ [])
+    × (effects mixed (End 0) ≡ Add 14 ∷ [])
+    × (conditions mixed (TimedAt 0) ≡ [])
+    × (conditions mixed (Start 0) ≡ Lit 10 true ∷ [])
+    × (conditions mixed (End 0) ≡ Lit 12 true ∷ [])
+    × (invariants mixed 0 ≡ Lit 11 true ∷ [])
+    × (map (is_durative mixed) (0 ∷ 1 ∷ 2 ∷ []) ≡ true ∷ false ∷ false ∷ [])
+
+-- An undefined fluent is neither increased nor decreased, but may be assigned.
+abbrev pub Undefined : Type 0
+Undefined = (e : Expr) → (is_defined (sample None None) (Change Increase 0 e) ≡ false)
+    × (is_defined (sample None None) (Change Decrease 0 e) ≡ false)
+    × (is_defined (sample None None) (Change Assign 0 two) ≡ true)
+
+-- An increase, a decrease and an assignment need a right side that is defined.
+abbrev pub UndefinedRight : Type 0
+UndefinedRight = (is_defined (sample (Some (pos 5)) None) (Change Increase 0 (Fluent 1)) ≡ false)
+    × (is_defined (sample (Some (pos 5)) None) (Change Decrease 0 (Fluent 1)) ≡ false)
+    × (is_defined (sample (Some (pos 5)) None) (Change Assign 0 (Fluent 1)) ≡ false)
+
+-- An item can happen where its condition holds and its effects are defined, and not where one of them fails.
+abbrev pub Own : Type 0
+Own = (own (raising []) (sample (Some (pos 5)) None) (Start 0) ≡ true)
+    × (own (raising []) (sample None None) (Start 0) ≡ false)
+    × (own mixed (sample None None) (Start 1) ≡ false)
+
+-- the value of fluent 0, which is 5, after these effects
+abbrev pub five_after : List Effect → Option ℤ
+five_after es = (next (sample (Some (pos 5)) (Some (pos 3))) es).fluent 0
+
+-- An increase adds and a decrease subtracts, two of them together; an assignment forgets the old value; a change of
+-- another fluent leaves this one; a right side is read before.
+abbrev pub Changes : Type 0
+Changes = (five_after (Change Increase 0 two ∷ []) ≡ Some (pos 7))
+    × (five_after (Change Decrease 0 two ∷ []) ≡ Some (pos 3))
+    × (five_after (Change Decrease 0 two ∷ Change Increase 0 two ∷ []) ≡ Some (pos 5))
+    × (five_after (Change Assign 0 two ∷ []) ≡ Some (pos 2))
+    × (five_after (Change Assign 1 two ∷ Change Increase 0 (Fluent 1) ∷ Change Assign 1 two ∷ []) ≡ Some (pos 8))
+    × (five_after (Change Increase 1 two ∷ Change Decrease 1 two ∷ Change Assign 1 two ∷ []) ≡ Some (pos 5))
+
+-- whether facts 0 and 1 are true after these effects, where 0 was before
+abbrev pub facts_after : List Effect → List Bool
+facts_after es = map (next (sample None None) es).fact (0 ∷ 1 ∷ [])
+
+-- What is added is true, also where it is deleted too; what is deleted is false; all else stays.
+abbrev pub Facts : Type 0
+Facts = (facts_after [] ≡ true ∷ false ∷ [])
+    × (facts_after (Delete 0 ∷ Add 1 ∷ []) ≡ false ∷ true ∷ [])
+    × (facts_after (Add 0 ∷ Delete 0 ∷ []) ≡ true ∷ false ∷ [])
+    × (facts_after (Delete 1 ∷ Add 1 ∷ []) ≡ true ∷ true ∷ [])
+
+-- The numbers of 64 bits.
+abbrev pub Fits : Type 0
+Fits = map fits (Some (pos (2 ^ 63 - 1)) ∷ Some (pos (2 ^ 63)) ∷ Some (negsuc (2 ^ 63 - 1)) ∷ Some (negsuc (2 ^ 63)) ∷ [])
+    ≡ true ∷ false ∷ true ∷ false ∷ []
+
+-- whether there is a state after the start of an action that raises fluent 0 by 2 from this value
+abbrev pub can_rise : ℤ → Bool
+can_rise z = has_after (raising []) (sample (Some z) None) (Start 0 ∷ [])
+
+-- There is a state after a change up to the greatest number, and none past it.
+abbrev pub StatesAfter : Type 0
+StatesAfter = (can_rise (pos (2 ^ 63 - 3)) ≡ true) × (can_rise (pos (2 ^ 63 - 2)) ≡ false)
+
+-- Effects on one fact disturb a condition on it, be it negated or not, and no other.
+abbrev pub LiteralsDisturbed : Type 0
+LiteralsDisturbed = (map (disturbs (Add 0)) (Lit 0 true ∷ Lit 0 false ∷ Lit 1 true ∷ []) ≡ true ∷ true ∷ false ∷ [])
+    × (map (disturbs (Delete 0)) (Lit 0 true ∷ Lit 0 false ∷ Lit 1 false ∷ []) ≡ true ∷ true ∷ false ∷ [])
+
+-- A change of a fluent disturbs a comparison that reads it on either side, and no other.
+abbrev pub ComparisonsDisturbed : Type 0
+ComparisonsDisturbed = (how : How) (op : Op) (e : Expr) → (disturbs (Change how 0 e) (Compare op (Fluent 0) two) ≡ true)
+    × (disturbs (Change how 0 e) (Compare op two (Fluent 0)) ≡ true)
+    × (disturbs (Change how 0 e) (Compare op (Fluent 1) two) ≡ false)
+    × (disturbs (Change how 0 e) (Lit 0 true) ≡ false)
+
+-- An add and a delete of one fact collide, two adds or two deletes don't.
+abbrev pub FactsCollide : Type 0
+FactsCollide = (map (collides (Add 0)) (Add 0 ∷ Delete 0 ∷ Delete 1 ∷ []) ≡ false ∷ true ∷ false ∷ [])
+    × (map (collides (Delete 0)) (Delete 0 ∷ Add 0 ∷ Add 1 ∷ []) ≡ false ∷ true ∷ false ∷ [])
+
+-- Two increases or decreases of one fluent don't collide, also where the other reads its own fluent alone; an assignment
+-- collides with each; so does what the other reads.
+abbrev pub ChangesCollide : Type 0
+ChangesCollide = (e : Expr) → (collides (Change Increase 0 e) (Change Increase 0 two) ≡ false)
+    × (collides (Change Increase 0 e) (Change Decrease 0 two) ≡ false)
+    × (collides (Change Decrease 0 e) (Change Decrease 0 two) ≡ false)
+    × (collides (Change Assign 0 e) (Change Increase 0 two) ≡ true)
+    × (collides (Change Decrease 0 e) (Change Assign 0 two) ≡ true)
+    × (collides (Change Assign 0 e) (Change Assign 0 two) ≡ true)
+    × (collides (Change Assign 0 e) (Change Assign 1 two) ≡ false)
+    × (collides (Change Increase 0 e) (Change Increase 1 (Fluent 0)) ≡ true)
+
+-- Items interfere in both directions: an add with each condition on its fact, and with a delete of it.
+abbrev pub Interferences : Type 0
+Interferences = (map (interfere sharing (Start 0)) (Start 1 ∷ Start 2 ∷ Start 3 ∷ Start 4 ∷ []) ≡ true ∷ true ∷ true ∷ false ∷ [])
+    × (map (λ i. interfere sharing i (Start 0)) (Start 1 ∷ Start 2 ∷ Start 3 ∷ Start 4 ∷ []) ≡ true ∷ true ∷ true ∷ false ∷ [])
+    × (interfere sharing (Start 1) (Start 2) ≡ false)
+
+-- A length is 0 of an instant action, from the least to the most of one that lasts, and none of what is no action.
+abbrev pub Lengths : Type 0
+Lengths = (map (in_range mixed 0) (1 ∷ 2 ∷ 3 ∷ 4 ∷ 5 ∷ []) ≡ false ∷ true ∷ true ∷ true ∷ false ∷ [])
+    × (map (in_range mixed 1) (0 ∷ 1 ∷ []) ≡ true ∷ false ∷ [])
+    × (map (in_range mixed 2) (0 ∷ 1 ∷ []) ≡ false ∷ false ∷ [])
+
+-- action 0 from 1 to 3, and action 1 at 3
+abbrev pub mixed_acts : List Timed
+mixed_acts = act 0 1 2 ∷ act 1 3 0 ∷ []
+
+-- What stands at a tick, in item order: timed items, ends of what lasts, and starts.
+abbrev pub Happenings : Type 0
+Happenings = (happening mixed mixed_acts 1 ≡ Start 0 ∷ [])
+    × (happening mixed mixed_acts 2 ≡ [])
+    × (happening mixed mixed_acts 3 ≡ TimedAt 0 ∷ End 0 ∷ Start 1 ∷ [])
+    × (happening mixed mixed_acts 5 ≡ TimedAt 1 ∷ [])
+
+-- An act runs from its start on, and not at its end.
+abbrev pub Running : Type 0
+Running = map (λ t. runs_at t (act 0 2 3)) (1 ∷ 2 ∷ 4 ∷ 5 ∷ 6 ∷ []) ≡ false ∷ true ∷ true ∷ false ∷ false ∷ []
+
+-- Acts are in order by start, then action, then length.
+abbrev pub ActOrder : Type 0
+ActOrder = (map (act_before (act 1 1 1)) (act 1 1 1 ∷ act 1 1 2 ∷ act 2 1 0 ∷ act 0 2 0 ∷ []) ≡ true ∷ true ∷ true ∷ true ∷ [])
+    × (map (act_before (act 1 1 1)) (act 1 1 0 ∷ act 0 1 2 ∷ act 2 0 2 ∷ []) ≡ false ∷ false ∷ false ∷ [])
+
+-- whether fact 0 is true in a state, none where there is no state
+abbrev pub known : Option State → Option Bool
+known s = option_map (λ s. s.fact 0) s
+
+-- A state is that before the first tick with what happened at each tick since; none stays none.
+abbrev pub Courses : Type 0
+Courses = (known (state_before sharing (act 0 1 0 ∷ []) 1) ≡ Some false)
+    × (known (state_after sharing (act 0 1 0 ∷ []) 1) ≡ Some true)
+    × (known (state_after sharing (act 0 1 0 ∷ []) 2) ≡ Some true)
+    × (known (state_after (raising (Some (pos (2 ^ 63 - 2)) ∷ [])) (act 0 0 0 ∷ []) 1) ≡ None)
+
+-- No two items of a tick interfere.
+abbrev pub Apart : Type 0
+Apart = ¬ (Passes sharing (act 0 0 0 ∷ act 3 0 0 ∷ []) 0)
+
+-- What an item asks is met before its tick, so not by another item of it.
+abbrev pub Met : Type 0
+Met = ¬ (Passes (guarded []) (act 4 0 0 ∷ []) 0)
+
+-- An invariant is asked from the start tick on, after what happens there, so an own start may give it.
+abbrev pub KeptByStart : Type 0
+KeptByStart = Passes (guarded []) (act 0 0 2 ∷ []) 0
+
+-- Another start may give it too.
+abbrev pub KeptByOther : Type 0
+KeptByOther = Passes (guarded []) (act 0 0 2 ∷ act 2 0 2 ∷ []) 0
+
+-- Where nothing gives it, the start tick fails.
+abbrev pub KeptByNone : Type 0
+KeptByNone = ¬ (Passes (guarded []) (act 2 0 2 ∷ []) 0)
+
+-- It is asked while the act runs.
+abbrev pub KeptOnWay : Type 0
+KeptOnWay = ¬ (Passes (guarded []) (act 0 0 2 ∷ act 1 1 0 ∷ []) 1)
+
+-- It is not asked at the end tick.
+abbrev pub KeptToEnd : Type 0
+KeptToEnd = Passes (guarded []) (act 0 0 2 ∷ act 1 2 0 ∷ []) 2
+
+-- Two acts of one action that touch, as many acts as allowed, and an end at the horizon: valid.
+abbrev pub AllValid : Type 0
+AllValid = Valid (guarded (Lit 0 true ∷ [])) (limits 2 4) (plan (act 0 0 2 ∷ act 0 2 2 ∷ []) 4)
+
+-- Not valid: one act more than allowed.
+abbrev pub NotFew : Type 0
+NotFew = ¬ (Valid (guarded (Lit 0 true ∷ [])) (limits 1 4) (plan (act 0 0 2 ∷ act 0 2 2 ∷ []) 4))
+
+-- Not valid: an end past the horizon.
+abbrev pub NotWithin : Type 0
+NotWithin = ¬ (Valid (guarded (Lit 0 true ∷ [])) (limits 2 3) (plan (act 0 0 2 ∷ act 0 2 2 ∷ []) 4))
+
+-- Not valid: acts out of order.
+abbrev pub NotInOrder : Type 0
+NotInOrder = ¬ (Valid (guarded []) (limits 2 4) (plan (act 3 1 0 ∷ act 0 0 2 ∷ []) 2))
+
+-- Not valid: two starts of an action at one tick.
+abbrev pub NotOnce : Type 0
+NotOnce = ¬ (Valid (guarded []) (limits 2 4) (plan (act 3 0 0 ∷ act 3 0 0 ∷ []) 0))
+
+-- Not valid: a length above the most.
+abbrev pub NotInLength : Type 0
+NotInLength = ¬ (Valid (guarded []) (limits 2 4) (plan (act 0 0 3 ∷ []) 3))
+
+-- Not valid: an act that starts before the one before it of its action ends.
+abbrev pub NotInTurn : Type 0
+NotInTurn = ¬ (Valid (guarded []) (limits 2 4) (plan (act 0 0 2 ∷ act 0 1 2 ∷ []) 3))
+
+-- Not valid: an end where nothing happens.
+abbrev pub NotClosing : Type 0
+NotClosing = ¬ (Valid (guarded []) (limits 2 4) (plan (act 0 0 2 ∷ []) 3))
+
+-- Not valid: an act that ends after the plan.
+abbrev pub NotEnded : Type 0
+NotEnded = ¬ (Valid (guarded []) (limits 2 4) (plan (act 0 0 2 ∷ []) 0))
+
+-- Not valid: what is asked at the end tick is not met.
+abbrev pub NotMetAtEnd : Type 0
+NotMetAtEnd = ¬ (Valid (guarded []) (limits 2 4) (plan (act 0 0 2 ∷ act 4 2 0 ∷ []) 2))
+
+-- Not valid: a goal that is not reached.
+abbrev pub NotReached : Type 0
+NotReached = ¬ (Valid (guarded (Lit 1 true ∷ [])) (limits 2 4) (plan [] 0))
+
+-- Acts are the same where action, start and length are.
+abbrev pub SameActs : Type 0
+SameActs = map (has_act (act 0 1 2 ∷ [])) (act 0 1 2 ∷ act 1 1 2 ∷ act 0 2 2 ∷ act 0 1 3 ∷ []) ≡ true ∷ false ∷ false ∷ false ∷ []
+
+-- which commitments and clock leave the plan possible that does action 3 at 1 and at 3
+abbrev pub StaysPossible : ℕ → List Timed → Type 0
+StaysPossible now commits = Possible (guarded []) (limits 2 4) now commits (plan (act 3 1 0 ∷ act 3 3 0 ∷ []) 3)
+
+-- Possible: a commitment before the clock, and another act at the clock.
+abbrev pub AtClock : Type 0
+AtClock = StaysPossible 3 (act 3 1 0 ∷ [])
+
+-- Not possible: an act that is no commitment before the clock.
+abbrev pub NotAtClock : Type 0
+NotAtClock = ¬ (StaysPossible 4 (act 3 1 0 ∷ []))
+
+-- Not possible: an act before a committed start of its action.
+abbrev pub NotLater : Type 0
+NotLater = ¬ (StaysPossible 0 (act 3 3 0 ∷ []))
+
+-- Not possible: a commitment that the plan does not have.
+abbrev pub NotCommitted : Type 0
+NotCommitted = ¬ (StaysPossible 0 (act 3 0 0 ∷ []))
