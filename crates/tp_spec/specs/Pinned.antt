@@ -1,12 +1,16 @@
 -- What the definitions say of small cases, both where a thing holds and where it does not.
-use Rattle.std.specs.Prelude.{◌≡◌, ℕ, ◌^◌, ◌-◌, Bool, true, false, not, List, [], ◌∷◌, map, Option, Some, None, ℤ, pos, negsuc}
+use Rattle.std.specs.Prelude.{◌≡◌, ℕ, ◌^◌, ◌-◌, ◌<◌, ◌≤◌, Bool, true, false, not, List, [], ◌∷◌, map, Option, Some, None, ℤ, pos, negsuc}
 use Rattle.std.specs.Option.{option_map}
 use Rattle.tp_spec.specs.declared.expr.Expr.{Expr}
 use Rattle.tp_spec.specs.declared.expr.Expr.TheVariants.{Number, Fluent, Difference}
 use Rattle.tp_spec.specs.declared.expr.Expr.TheOpen.{Expr-F}
 use Rattle.tp_spec.specs.declared.plan.Item.{Item}
 use Rattle.tp_spec.specs.declared.plan.Item.TheVariants.{TimedAt, Start, End}
+use Rattle.tp_spec.specs.declared.plan.Limits.{Limits}
+use Rattle.tp_spec.specs.declared.plan.Mark.{Mark}
 use Rattle.tp_spec.specs.declared.plan.Timed.{Timed}
+use Rattle.tp_spec.specs.declared.problem.Problem.{Problem}
+use Rattle.tp_spec.specs.declared.problem.TimedItem.{TimedItem}
 use Rattle.tp_spec.specs.declared.problem.Cond.TheVariants.{Lit, Compare}
 use Rattle.tp_spec.specs.declared.problem.Effect.{Effect}
 use Rattle.tp_spec.specs.declared.problem.Effect.TheVariants.{Add, Delete, Change}
@@ -18,7 +22,11 @@ use Rattle.tp_spec.specs.States.{State, initial, value, value_at, compares, hold
 use Rattle.tp_spec.specs.Items.{all_items, item_before, is_durative, effects, conditions, invariants, is_defined, own, changed, next, fits, has_after}
 use Rattle.tp_spec.specs.Interference.{disturbs, collides, interfere}
 use Rattle.tp_spec.specs.Courses.{in_range, happening, runs_at, act_before, state_before, state_after, Passes, Valid, has_act, Possible}
-use Rattle.tp_spec.specs.Samples.{sample, two, mixed, sharing, raising, act, plan, limits, guarded}
+use Rattle.tp_spec.specs.Lists.{IsIn}
+use Rattle.tp_spec.specs.Words.{spell, runs_after, in_turn, may_join, closes, may_follow, at_start, progress, Sound, groups, Act, acts_of, timed_of}
+use Rattle.tp_spec.specs.Schedules.{Schedule, finish, awaited, IsSchedule, IsGreatest, IsLeast, timed_act, plan_of}
+use Rattle.tp_spec.specs.Machine.{candidate, unmet_goals, no_worse, mark_before}
+use Rattle.tp_spec.specs.Samples.{sample, two, mixed, sharing, raising, act, plan, limits, guarded, opens, joins, reading, timings, at_five, schedule, word_act, node}
 
 -- 1 compared with 2, with 1, and 2 with 1
 abbrev pub outcomes : Op → List Bool
@@ -298,3 +306,226 @@ NotLater = ¬ (StaysPossible 0 (act 3 3 0 ∷ []))
 -- Not possible: a commitment that the plan does not have.
 abbrev pub NotCommitted : Type 0
 NotCommitted = ¬ (StaysPossible 0 (act 3 0 0 ∷ []))
+
+-- The word of a plan has each happening up to its end: the first item of each opens a group, the others join it.
+abbrev pub Spelled : Type 0
+Spelled = (spell mixed (plan mixed_acts 2) ≡ opens (Start 0) ∷ [])
+    × (spell mixed (plan mixed_acts 3) ≡ opens (Start 0) ∷ opens (TimedAt 0) ∷ joins (End 0) ∷ joins (Start 1) ∷ [])
+
+-- An action runs after a group in which it starts, if it lasts, and after one in which it does not end.
+abbrev pub RunsAfter : Type 0
+RunsAfter = (runs_after mixed (reading (Start 0 ∷ []) false 0) 0 ≡ true)
+    × (runs_after mixed (reading (Start 1 ∷ []) false 0) 1 ≡ false)
+    × (runs_after mixed (reading [] true 0) 0 ≡ true)
+    × (runs_after mixed (reading (End 0 ∷ []) true 0) 0 ≡ false)
+    × (runs_after mixed (reading (End 0 ∷ Start 0 ∷ []) true 0) 0 ≡ true)
+
+-- Timed items come in order without omission.
+abbrev pub TimedInTurn : Type 0
+TimedInTurn = (map (in_turn mixed (reading [] false 0)) (TimedAt 0 ∷ TimedAt 1 ∷ []) ≡ true ∷ false ∷ [])
+    × (map (in_turn mixed (reading [] false 1)) (TimedAt 0 ∷ TimedAt 1 ∷ []) ≡ false ∷ true ∷ [])
+    × (in_turn mixed (reading [] false 2) (TimedAt 2) ≡ false)
+
+-- What ends started in an earlier group, and has not ended in this one.
+abbrev pub EndsInTurn : Type 0
+EndsInTurn = (in_turn mixed (reading [] true 0) (End 0) ≡ true)
+    × (in_turn mixed (reading [] false 0) (End 0) ≡ false)
+    × (in_turn mixed (reading (Start 0 ∷ []) false 0) (End 0) ≡ false)
+    × (in_turn mixed (reading (End 0 ∷ []) true 0) (End 0) ≡ false)
+
+-- What starts is an action that does not run, or ended earlier in this group.
+abbrev pub StartsInTurn : Type 0
+StartsInTurn = (map (in_turn mixed (reading [] false 0)) (Start 0 ∷ Start 1 ∷ Start 2 ∷ []) ≡ true ∷ true ∷ false ∷ [])
+    × (in_turn mixed (reading [] true 0) (Start 0) ≡ false)
+    × (in_turn mixed (reading (End 0 ∷ []) true 0) (Start 0) ≡ true)
+
+-- An item joins a group behind the last one in item order, with its conditions met before the group, and interferes with
+-- none of it.
+abbrev pub Joins : Type 0
+Joins = (map (may_join sharing (reading (Start 1 ∷ []) false 0)) (Start 0 ∷ Start 1 ∷ Start 2 ∷ Start 3 ∷ Start 4 ∷ [])
+    ≡ false ∷ false ∷ false ∷ false ∷ true ∷ [])
+    × (map (may_join sharing (reading [] false 0)) (Start 0 ∷ Start 1 ∷ Start 2 ∷ []) ≡ true ∷ true ∷ false ∷ [])
+
+-- whether a group may be closed that is the first of the guarded problem
+abbrev pub closes_first : List Item → Bool
+closes_first group = closes (guarded []) (record (at_start (guarded [])) { group = group })
+
+-- A group is closed where the invariants of all that runs after it hold in the state after it.
+abbrev pub Closed : Type 0
+Closed = (closes_first [] ≡ true)
+    × (closes_first (Start 0 ∷ []) ≡ true)
+    × (closes_first (Start 2 ∷ []) ≡ false)
+    × (closes_first (Start 0 ∷ Start 2 ∷ []) ≡ true)
+    × (closes (guarded []) (reading (Start 1 ∷ []) true 0) ≡ false)
+    × (closes (guarded []) (reading (End 0 ∷ Start 1 ∷ []) true 0) ≡ true)
+
+-- A group is not closed where there is no state after it.
+abbrev pub NotClosed : Type 0
+NotClosed = closes (raising []) (record { before = sample (Some (pos (2 ^ 63 - 2))) None; group = Start 0 ∷ []; timed = 0; running = λ a. false }) ≡ false
+
+-- The last group is judged when the next one opens, and not when it is joined; there is none at the start.
+abbrev pub Follows : Type 0
+Follows = (map (may_follow (guarded []) (at_start (guarded []))) (opens (Start 2) ∷ joins (Start 2) ∷ []) ≡ true ∷ false ∷ [])
+    × (map (may_follow (guarded []) (progress (guarded []) (opens (Start 2) ∷ []))) (opens (Start 3) ∷ joins (Start 3) ∷ [])
+    ≡ false ∷ true ∷ [])
+
+-- An act that ends in the group in which the next one of its action starts.
+abbrev pub IsSoundWord : Type 0
+IsSoundWord = Sound (guarded []) (opens (Start 0) ∷ opens (End 0) ∷ joins (Start 0) ∷ [])
+
+-- An invariant that does not hold where a group is closed.
+abbrev pub NotSoundWord : Type 0
+NotSoundWord = ¬ (Sound (guarded []) (opens (Start 2) ∷ opens (End 2) ∷ []))
+
+-- a word in which action 0 ends and starts again at a timed item, where action 1 starts too
+abbrev pub long_word : List Mark
+long_word = opens (Start 0) ∷ opens (TimedAt 0) ∷ joins (End 0) ∷ joins (Start 0) ∷ joins (Start 1) ∷ []
+
+-- The groups of a word, those of its timed items, and its acts with the groups of their starts and ends.
+abbrev pub WordParts : Type 0
+WordParts = (groups long_word ≡ 2)
+    × (timed_of long_word ≡ 1 ∷ [])
+    × (acts_of mixed long_word ≡ word_act 0 0 (Some 1) ∷ word_act 0 1 None ∷ word_act 1 1 (Some 1) ∷ [])
+
+-- An act ends at the tick of the group that closes it, or at an end of its own.
+abbrev pub Finishes : Type 0
+Finishes = (finish (schedule 3 4 9) (word_act 0 0 (Some 1)) ≡ 4)
+    × (finish (schedule 3 4 9) (word_act 0 0 None) ≡ 9)
+    × (timed_act (schedule 3 4 9) (word_act 7 0 None) ≡ act 7 3 6)
+
+-- The commitments of an action behind as many as a word has starts of it.
+abbrev pub Awaited : Type 0
+Awaited = awaited (word_act 0 0 (Some 1) ∷ word_act 1 1 None ∷ []) (act 0 1 2 ∷ act 0 4 2 ∷ act 2 5 0 ∷ [])
+    ≡ act 0 4 2 ∷ act 2 5 0 ∷ []
+
+-- The plan of a word: its acts, and an end at its last group.
+abbrev pub Plans : Type 0
+Plans = (plan_of mixed (opens (Start 0) ∷ opens (End 0) ∷ []) (schedule 3 5 9) ≡ plan (act 0 3 2 ∷ []) 5)
+    × (plan_of mixed [] (schedule 3 5 9) ≡ plan [] 0)
+
+-- which schedules there are with at most 2 acts, up to tick 9
+abbrev pub Fitting : List TimedItem → ℕ → List Timed → List Mark → Schedule → Type 0
+Fitting timed now commits w x = IsSchedule (timings timed) (limits 2 9) now commits w x
+
+-- action 1 twice, one group after the other
+abbrev pub twice : List Mark
+twice = opens (Start 1) ∷ opens (Start 1) ∷ []
+
+-- action 0 from one group to the next
+abbrev pub whole : List Mark
+whole = opens (Start 0) ∷ opens (End 0) ∷ []
+
+-- action 0, which still runs when action 1 is done
+abbrev pub begun : List Mark
+begun = opens (Start 0) ∷ opens (Start 1) ∷ []
+
+-- A schedule: the first start of an action is its first commitment, also before the clock, the second one at the clock.
+abbrev pub Punctual : Type 0
+Punctual = Fitting at_five 4 (act 1 3 0 ∷ []) twice (schedule 3 4 0)
+
+-- A schedule: a length at the least, and an end at the horizon.
+abbrev pub Shortest : Type 0
+Shortest = Fitting [] 0 [] whole (schedule 7 9 0)
+
+-- A schedule: a running act of the greatest length, which ends at the last group, and a timed item at its tick.
+abbrev pub Longest : Type 0
+Longest = Fitting at_five 0 [] (opens (Start 0) ∷ opens (TimedAt 0) ∷ []) (schedule 2 5 5)
+
+-- A schedule: a commitment that is not in the word starts at its last group.
+abbrev pub Owing : Type 0
+Owing = Fitting [] 0 (act 0 3 0 ∷ []) (opens (Start 1) ∷ []) (schedule 3 3 0)
+
+-- No schedule: two groups at one tick.
+abbrev pub NotRising : Type 0
+NotRising = ¬ (Fitting [] 0 [] twice (schedule 3 3 0))
+
+-- No schedule: a group past the horizon.
+abbrev pub NotWithinHorizon : Type 0
+NotWithinHorizon = ¬ (IsSchedule (timings at_five) (limits 2 4) 0 [] (opens (TimedAt 0) ∷ []) (schedule 5 5 0))
+
+-- No schedule: a timed item at another tick than its own.
+abbrev pub NotTimed : Type 0
+NotTimed = ¬ (Fitting at_five 0 [] (opens (TimedAt 0) ∷ []) (schedule 4 4 0))
+
+-- No schedule: a group at the tick of the next timed item.
+abbrev pub NotBeforeNext : Type 0
+NotBeforeNext = ¬ (Fitting at_five 0 [] (opens (Start 1) ∷ []) (schedule 5 5 0))
+
+-- No schedule: a length below the least.
+abbrev pub TooShort : Type 0
+TooShort = ¬ (Fitting [] 0 [] whole (schedule 3 4 0))
+
+-- No schedule: a running act longer than the most.
+abbrev pub TooLong : Type 0
+TooLong = ¬ (Fitting [] 0 [] (opens (Start 0) ∷ []) (schedule 3 3 7))
+
+-- No schedule: a running act that ends past the horizon.
+abbrev pub NotEndingWithin : Type 0
+NotEndingWithin = ¬ (Fitting [] 0 [] (opens (Start 0) ∷ []) (schedule 8 8 10))
+
+-- No schedule: a running act that ends before the last group.
+abbrev pub NotOpenLate : Type 0
+NotOpenLate = ¬ (Fitting [] 0 [] begun (schedule 3 6 5))
+
+-- No schedule: a start before the clock.
+abbrev pub NotAtClockYet : Type 0
+NotAtClockYet = ¬ (Fitting [] 4 [] (opens (Start 1) ∷ []) (schedule 3 3 0))
+
+-- No schedule: the second start of an action before the clock, and the first one as it was committed.
+abbrev pub SecondTooEarly : Type 0
+SecondTooEarly = ¬ (Fitting [] 5 (act 1 3 0 ∷ []) twice (schedule 3 4 0))
+
+-- No schedule: the second start of an action at its first commitment.
+abbrev pub WrongCommitment : Type 0
+WrongCommitment = ¬ (Fitting [] 0 (act 1 4 0 ∷ []) twice (schedule 3 4 0))
+
+-- No schedule: a committed act of another length.
+abbrev pub WrongLength : Type 0
+WrongLength = ¬ (Fitting [] 0 (act 0 3 2 ∷ []) whole (schedule 3 6 0))
+
+-- No schedule: a commitment that is not in the word and starts before a group.
+abbrev pub NotOwing : Type 0
+NotOwing = ¬ (Fitting [] 0 (act 0 3 0 ∷ []) (opens (Start 1) ∷ []) (schedule 4 4 0))
+
+-- No schedule: more starts and commitments than the limit allows.
+abbrev pub TooMany : Type 0
+TooMany = ¬ (Fitting [] 0 (act 0 8 2 ∷ []) twice (schedule 3 4 0))
+
+-- No schedule has a later group than the greatest one, nor a later end of what runs.
+abbrev pub GreatestIsLast : Type 0
+GreatestIsLast = (p : Problem) (l : Limits) (now : ℕ) (commits : List Timed) (w : List Mark) (x y : Schedule)
+    → IsGreatest p l now commits w x → IsSchedule p l now commits w y
+    → ((g : ℕ) → g < groups w → y.tick g ≤ x.tick g)
+    × ((a : Act) → IsIn a (acts_of p w) → a.closes ≡ None → y.end a.action ≤ x.end a.action)
+
+-- No schedule has an earlier group than the least one, nor an earlier end of what runs.
+abbrev pub LeastIsFirst : Type 0
+LeastIsFirst = (p : Problem) (l : Limits) (now : ℕ) (commits : List Timed) (w : List Mark) (x y : Schedule)
+    → IsLeast p l now commits w x → IsSchedule p l now commits w y
+    → ((g : ℕ) → g < groups w → x.tick g ≤ y.tick g)
+    × ((a : Act) → IsIn a (acts_of p w) → a.closes ≡ None → x.end a.action ≤ y.end a.action)
+
+-- The candidate is the first start behind as many of its action as are committed.
+abbrev pub Candidates : Type 0
+Candidates = (candidate [] [] (acts_of mixed long_word) ≡ Some (word_act 0 0 (Some 1)))
+    × (candidate [] (act 0 1 2 ∷ []) (acts_of mixed long_word) ≡ Some (word_act 0 1 None))
+    × (candidate [] (act 0 1 2 ∷ act 0 3 2 ∷ []) (acts_of mixed long_word) ≡ Some (word_act 1 1 (Some 1)))
+    × (candidate [] (act 1 3 0 ∷ act 0 1 2 ∷ act 0 3 2 ∷ []) (acts_of mixed long_word) ≡ None)
+
+-- The rank counts the goal parts that do not hold, and all of them where there is no state after the last group.
+abbrev pub Ranks : Type 0
+Ranks = (unmet_goals (guarded (Lit 0 true ∷ Lit 1 true ∷ Lit 1 false ∷ [])) (reading [] false 0) ≡ 1)
+    × (unmet_goals (guarded (Lit 0 true ∷ Lit 1 true ∷ Lit 1 false ∷ [])) (reading (Start 1 ∷ []) false 0) ≡ 2)
+    × (unmet_goals (record (raising []) { goal = Lit 0 true ∷ Lit 1 true ∷ [] })
+    (record { before = sample (Some (pos (2 ^ 63 - 2))) None; group = Start 0 ∷ []; timed = 0; running = λ a. false }) ≡ 2)
+
+-- The best node has the least rank, and of those the least id.
+abbrev pub BestNodes : Type 0
+BestNodes = map (no_worse (guarded (Lit 0 true ∷ [])) (node 3 [] None))
+    (node 3 [] None ∷ node 2 [] None ∷ node 4 [] None ∷ node 4 (opens (Start 0) ∷ []) None ∷ node 2 (opens (Start 1) ∷ []) None ∷ [])
+    ≡ true ∷ false ∷ true ∷ false ∷ false ∷ []
+
+-- Marks that join come before marks that open, each kind in item order.
+abbrev pub MarkOrder : Type 0
+MarkOrder = (map (mark_before (joins (Start 0))) (joins (Start 0) ∷ joins (Start 1) ∷ joins (End 1) ∷ opens (End 0) ∷ []) ≡ false ∷ true ∷ false ∷ true ∷ [])
+    × (map (mark_before (opens (Start 0))) (opens (Start 0) ∷ opens (Start 1) ∷ opens (End 1) ∷ joins (Start 1) ∷ []) ≡ false ∷ true ∷ false ∷ false ∷ [])

@@ -1,5 +1,8 @@
 ghost use Rattle.tp_spec.specs.Pinned.{Comparisons, Operations, Values, Literals, UndefinedCompares, StartStates, ItemOrder, Parts, Undefined, UndefinedRight, Own, Changes, Facts, Fits, StatesAfter, LiteralsDisturbed, ComparisonsDisturbed, FactsCollide, ChangesCollide, Interferences};
 ghost use Rattle.tp_spec.specs.Pinned.{Lengths, Happenings, Running, ActOrder, Courses, Apart, Met, KeptByStart, KeptByOther, KeptByNone, KeptOnWay, KeptToEnd, AllValid, NotFew, NotWithin, NotInOrder, NotOnce, NotInLength, NotInTurn, NotClosing, NotEnded, NotMetAtEnd, NotReached, SameActs, AtClock, NotAtClock, NotLater, NotCommitted};
+ghost use Rattle.tp_spec.specs.Pinned.{Spelled, RunsAfter, TimedInTurn, EndsInTurn, StartsInTurn, Joins, Closed, NotClosed, Follows, IsSoundWord, NotSoundWord, WordParts};
+ghost use Rattle.tp_spec.specs.Pinned.{Finishes, Awaited, Plans, Punctual, Shortest, Longest, Owing, NotRising, NotWithinHorizon, NotTimed, NotBeforeNext, TooShort, TooLong, NotEndingWithin, NotOpenLate, NotAtClockYet, SecondTooEarly, WrongCommitment, WrongLength, NotOwing, TooMany, GreatestIsLast, LeastIsFirst};
+ghost use Rattle.tp_spec.specs.Pinned.{Candidates, Ranks, BestNodes, MarkOrder};
 
 /// States, values and conditions.
 pub fn states()
@@ -67,4 +70,59 @@ pub fn plans()
     ensures not_at_clock { NotAtClock }
     ensures not_later { NotLater }
     ensures not_committed { NotCommitted }
+{}
+
+/// How plans are spelled, and which words are sound.
+pub fn words()
+    ensures spelled { Spelled }
+    ensures runs_after { RunsAfter }
+    ensures timed { TimedInTurn }
+    ensures ends { EndsInTurn }
+    ensures starts { StartsInTurn }
+    ensures joining { Joins }
+    ensures closed { Closed }
+    ensures not_closed { NotClosed }
+    ensures follows { Follows }
+    ensures sound { IsSoundWord }
+    ensures not_sound { NotSoundWord }
+    ensures parts { WordParts }
+{}
+
+/// Which schedules a word has, and the plan of one.
+pub fn schedules()
+    ensures finishes { Finishes }
+    ensures awaited { Awaited }
+    ensures plans { Plans }
+    ensures punctual { Punctual }
+    ensures shortest { Shortest }
+    ensures longest { Longest }
+    ensures owing { Owing }
+    ensures greatest { GreatestIsLast }
+    ensures least { LeastIsFirst }
+{}
+
+/// What is no schedule of a word, part by part.
+pub fn no_schedules()
+    ensures not_rising { NotRising }
+    ensures not_within { NotWithinHorizon }
+    ensures not_timed { NotTimed }
+    ensures not_before_next { NotBeforeNext }
+    ensures too_short { TooShort }
+    ensures too_long { TooLong }
+    ensures not_ending_within { NotEndingWithin }
+    ensures not_open_late { NotOpenLate }
+    ensures not_at_clock { NotAtClockYet }
+    ensures second_too_early { SecondTooEarly }
+    ensures wrong_commitment { WrongCommitment }
+    ensures wrong_length { WrongLength }
+    ensures not_owing { NotOwing }
+    ensures too_many { TooMany }
+{}
+
+/// What the search and the commit rule choose.
+pub fn choices()
+    ensures candidates { Candidates }
+    ensures ranks { Ranks }
+    ensures best { BestNodes }
+    ensures marks { MarkOrder }
 {}

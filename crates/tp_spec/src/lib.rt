@@ -9,7 +9,9 @@ mod plan;
 mod problem;
 
 pub use event::{Cause, Event};
-pub use examples::{courses, interference, items, plans, states};
+pub use examples::{
+    choices, courses, interference, items, no_schedules, plans, schedules, states, words,
+};
 pub use expr::Expr;
 pub use list::{List, Name, NoMemory};
 pub use plan::{Item, Limits, Mark, Plan, Timed};
