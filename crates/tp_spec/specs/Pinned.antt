@@ -1,6 +1,9 @@
 -- What the definitions say of small cases, both where a thing holds and where it does not.
-use Rattle.std.specs.Prelude.{◌≡◌, ℕ, ◌^◌, ◌-◌, ◌<◌, ◌≤◌, Bool, true, false, not, List, [], ◌∷◌, map, Option, Some, None, ℤ, pos, negsuc}
+use Rattle.std.specs.Prelude.{◌≡◌, ℕ, ◌+◌, ◌^◌, ◌-◌, ◌<◌, ◌≤◌, Bool, true, false, not, List, [], ◌∷◌, ◌++◌, length, map, Option, Some, None, ℤ, pos, negsuc}
 use Rattle.std.specs.Option.{option_map}
+use Rattle.tp_spec.specs.declared.event.Cause.TheVariants.{Script}
+use Rattle.tp_spec.specs.declared.event.Event.{Event}
+use Rattle.tp_spec.specs.declared.event.Event.TheVariants.{Tick, Drop, Dispatch, Take, Expand, Publish, Limit, Exhaust, Halt}
 use Rattle.tp_spec.specs.declared.expr.Expr.{Expr}
 use Rattle.tp_spec.specs.declared.expr.Expr.TheVariants.{Number, Fluent, Difference}
 use Rattle.tp_spec.specs.declared.expr.Expr.TheOpen.{Expr-F}
@@ -8,6 +11,7 @@ use Rattle.tp_spec.specs.declared.plan.Item.{Item}
 use Rattle.tp_spec.specs.declared.plan.Item.TheVariants.{TimedAt, Start, End}
 use Rattle.tp_spec.specs.declared.plan.Limits.{Limits}
 use Rattle.tp_spec.specs.declared.plan.Mark.{Mark}
+use Rattle.tp_spec.specs.declared.plan.Plan.{Plan}
 use Rattle.tp_spec.specs.declared.plan.Timed.{Timed}
 use Rattle.tp_spec.specs.declared.problem.Problem.{Problem}
 use Rattle.tp_spec.specs.declared.problem.TimedItem.{TimedItem}
@@ -20,13 +24,14 @@ use Rattle.tp_spec.specs.declared.problem.Op.{Op}
 use Rattle.tp_spec.specs.declared.problem.Op.TheVariants.{Less, LessEq, Equal, MoreEq, More}
 use Rattle.tp_spec.specs.States.{State, initial, value, value_at, compares, holds}
 use Rattle.tp_spec.specs.Items.{all_items, item_before, is_durative, effects, conditions, invariants, is_defined, own, changed, next, fits, has_after}
-use Rattle.tp_spec.specs.Interference.{disturbs, collides, interfere}
+use Rattle.tp_spec.specs.Interference.{reads_at, disturbs, collides, interfere}
 use Rattle.tp_spec.specs.Courses.{in_range, happening, runs_at, act_before, state_before, state_after, Passes, Valid, has_act, Possible}
-use Rattle.tp_spec.specs.Lists.{IsIn}
+use Rattle.tp_spec.specs.Lists.{IsIn, BeginsWith}
 use Rattle.tp_spec.specs.Words.{spell, runs_after, in_turn, may_join, closes, may_follow, at_start, progress, Sound, groups, Act, acts_of, timed_of}
-use Rattle.tp_spec.specs.Schedules.{Schedule, finish, awaited, IsSchedule, IsGreatest, IsLeast, timed_act, plan_of}
-use Rattle.tp_spec.specs.Machine.{candidate, unmet_goals, no_worse, mark_before}
-use Rattle.tp_spec.specs.Samples.{sample, two, mixed, sharing, raising, act, plan, limits, guarded, opens, joins, reading, timings, at_five, schedule, word_act, node}
+use Rattle.tp_spec.specs.Schedules.{Schedule, finish, awaited, IsSchedule, Live, IsGreatest, IsLeast, timed_act, plan_of}
+use Rattle.tp_spec.specs.Machine.{candidate, unmet_goals, no_worse, mark_before, open_nodes, IsBest, AreLiveMarks, TakeIsLegal, Machine, Node, first, step, readings, ticks, Legal, IsDue, ExpandIsLegal, PublishIsLegal, LimitIsLegal, DropIsLegal, ExhaustIsLegal}
+use Rattle.tp_spec.specs.Following.{turn_events, last_take, rests_in, most_rests, is_busy_turn}
+use Rattle.tp_spec.specs.Samples.{sample, two, problem, instant, mixed, sharing, raising, act, plan, limits, guarded, opens, joins, reading, timings, at_five, schedule, word_act, node}
 
 -- 1 compared with 2, with 1, and 2 with 1
 abbrev pub outcomes : Op → List Bool
@@ -529,3 +534,219 @@ BestNodes = map (no_worse (guarded (Lit 0 true ∷ [])) (node 3 [] None))
 abbrev pub MarkOrder : Type 0
 MarkOrder = (map (mark_before (joins (Start 0))) (joins (Start 0) ∷ joins (Start 1) ∷ joins (End 1) ∷ opens (End 0) ∷ []) ≡ false ∷ true ∷ false ∷ true ∷ [])
     × (map (mark_before (opens (Start 0))) (opens (Start 0) ∷ opens (Start 1) ∷ opens (End 1) ∷ joins (Start 1) ∷ []) ≡ false ∷ true ∷ false ∷ false ∷ [])
+
+-- two nodes of a turn of actor 2, who took the second one; 7 ids were given
+abbrev pub amid : Machine
+amid = record {
+  now = 3;
+  commits = act 0 1 2 ∷ [];
+  nodes = node 4 [] None ∷ node 6 (opens (Start 0) ∷ []) (Some 2) ∷ [];
+  made = 7;
+  turn = Some (record { actor = 2; acted = false });
+  over = false;
+}
+
+-- The machine at the start: the open root with id 0 and the empty word, and nothing else.
+abbrev pub FirstState : Type 0
+FirstState = first ≡ record { now = 0; commits = []; nodes = node 0 [] None ∷ []; made = 1; turn = None; over = false }
+
+-- A Tick gives the turn to its actor, with no deed made; the clock does not go back.
+abbrev pub TickStep : Type 0
+TickStep = ((step (limits 2 9) amid (Tick 5 2)).turn ≡ Some (record { actor = 5; acted = false }))
+    × ((step (limits 2 9) amid (Tick 5 2)).now ≡ 3)
+
+-- A Drop takes its node out, and a Dispatch puts its act behind the others.
+abbrev pub SettlingSteps : Type 0
+SettlingSteps = (step (limits 2 9) amid (Drop 6) ≡ record amid { nodes = node 4 [] None ∷ [] })
+    × (step (limits 2 9) amid (Dispatch (act 1 5 0)) ≡ record amid { commits = act 0 1 2 ∷ act 1 5 0 ∷ [] })
+
+-- A Take marks its node alone, and is a deed.
+abbrev pub TakeStep : Type 0
+TakeStep = step (limits 2 9) amid (Take 2 4) ≡ record amid {
+  nodes = node 4 [] (Some 2) ∷ node 6 (opens (Start 0) ∷ []) (Some 2) ∷ [];
+  turn = Some (record { actor = 2; acted = true });
+}
+
+-- An Expand replaces its node by open ones with the next ids, behind the others, one for each mark.
+abbrev pub ExpandStep : Type 0
+ExpandStep = step (limits 2 9) amid (Expand 2 6 (joins (Start 1) ∷ opens (End 0) ∷ [])) ≡ record amid {
+  nodes = node 4 [] None ∷ node 7 (opens (Start 0) ∷ joins (Start 1) ∷ []) None ∷ node 8 (opens (Start 0) ∷ opens (End 0) ∷ []) None ∷ [];
+  made = 9;
+  turn = Some (record { actor = 2; acted = true });
+}
+
+-- An outcome stands after a Publish, a Limit, an Exhaust and a Halt, and after no other event.
+abbrev pub Outcomes : Type 0
+Outcomes = (map (λ e. (step (limits 2 9) amid e).over) (Publish 2 6 (plan [] 0) ∷ Limit 2 6 7 9 ∷ Exhaust ∷ Halt Script ∷ [])
+    ≡ true ∷ true ∷ true ∷ true ∷ [])
+    × (map (λ e. (step (limits 2 9) amid e).over) (Tick 1 4 ∷ Drop 4 ∷ Dispatch (act 1 5 0) ∷ Take 2 4 ∷ Expand 2 6 [] ∷ [])
+    ≡ false ∷ false ∷ false ∷ false ∷ false ∷ [])
+
+-- The readings of a history are those of its Ticks, in order.
+abbrev pub Readings : Type 0
+Readings = (readings (Tick 1 8 ∷ Take 1 0 ∷ Tick 0 3 ∷ []) ≡ 8 ∷ 3 ∷ []) × (ticks (Tick 1 8 ∷ Take 1 0 ∷ Tick 0 3 ∷ []) ≡ 2)
+
+-- No event is legal where an outcome stands.
+abbrev pub NoneAfterOutcome : Type 0
+NoneAfterOutcome = (p : Problem) (l : Limits) (m : Machine) (e : Event) → m.over ≡ true → ¬ (Legal p l m e)
+
+-- a node of this id that this actor took
+abbrev pub HasTaken : Machine → ℕ → ℕ → Type 0
+HasTaken m actor id = (n : Node) × IsIn n m.nodes × (n.id ≡ id) × (n.taker ≡ Some actor)
+
+-- Who expands, publishes or ends by the limit has the turn, has made no deed in it, and took the node.
+abbrev pub OfTakers : Type 0
+OfTakers = (p : Problem) (l : Limits) (m : Machine) (actor id made : ℕ) (marks : List Mark) (plan : Plan)
+    → (ExpandIsLegal p l m actor id marks → (m.turn ≡ Some (record { actor = actor; acted = false })) × HasTaken m actor id)
+    × (PublishIsLegal p l m actor id plan → (m.turn ≡ Some (record { actor = actor; acted = false })) × HasTaken m actor id)
+    × (LimitIsLegal p l m actor id made made → (m.turn ≡ Some (record { actor = actor; acted = false })) × HasTaken m actor id)
+
+-- An Expand gives at most as many ids as may be given, and a Limit stands where the marks would give more.
+abbrev pub AtLimit : Type 0
+AtLimit = (p : Problem) (l : Limits) (m : Machine) (actor id made n : ℕ) (marks : List Mark)
+    → (ExpandIsLegal p l m actor id marks → m.made + length marks ≤ l.nodes)
+    × (LimitIsLegal p l m actor id made n → l.nodes < m.made + n)
+
+-- A dropped word begins the word of no possible plan.
+abbrev pub Dropped : Type 0
+Dropped = (p : Problem) (l : Limits) (m : Machine) (id : ℕ) → DropIsLegal p l m id
+    → (n : Node) × IsIn n m.nodes × (n.id ≡ id)
+    × ((plan : Plan) → Possible p l m.now m.commits plan → ¬ (BeginsWith (spell p plan) n.word))
+
+-- A published plan is possible.
+abbrev pub Published : Type 0
+Published = (p : Problem) (l : Limits) (m : Machine) (actor id : ℕ) (plan : Plan) → PublishIsLegal p l m actor id plan
+    → Possible p l m.now m.commits plan
+
+-- An Exhaust stands where no node is left and no plan is possible.
+abbrev pub Exhausted : Type 0
+Exhausted = (p : Problem) (l : Limits) (m : Machine) → ExhaustIsLegal p l m
+    → (m.nodes ≡ []) × ((plan : Plan) → ¬ (Possible p l m.now m.commits plan))
+
+-- An act that is due starts at the clock plus the lead, or before.
+abbrev pub DueSoon : Type 0
+DueSoon = (p : Problem) (l : Limits) (m : Machine) (act : Timed) → IsDue p l m act → act.start ≤ m.now + l.lead
+
+-- The events of a turn end before the next Tick or Halt.
+abbrev pub TurnEvents : Type 0
+TurnEvents = (turn_events (Drop 4 ∷ Take 2 4 ∷ Tick 1 3 ∷ Drop 5 ∷ []) ≡ Drop 4 ∷ Take 2 4 ∷ [])
+    × (turn_events (Drop 4 ∷ Halt Script ∷ []) ≡ Drop 4 ∷ [])
+
+-- What an actor took in its last turn.
+abbrev pub LastTakes : Type 0
+LastTakes = (last_take 1 (Tick 1 0 ∷ Take 1 5 ∷ Tick 2 0 ∷ Take 2 6 ∷ []) ≡ Some 5)
+    × (last_take 1 (Tick 1 0 ∷ Take 1 5 ∷ Tick 1 0 ∷ []) ≡ None)
+    × (last_take 1 (Tick 2 0 ∷ Take 2 6 ∷ []) ≡ None)
+
+-- The turns after the last deed.
+abbrev pub Rests : Type 0
+Rests = (rests_in (Tick 0 0 ∷ Tick 0 0 ∷ []) ≡ 2)
+    × (rests_in (Tick 0 0 ∷ Tick 1 0 ∷ Take 1 0 ∷ Drop 7 ∷ Tick 0 0 ∷ []) ≡ 1)
+    × (most_rests ≡ 10000)
+
+-- whether a turn behind these events is busy with two workers, where the root is the first node
+abbrev pub busy : List Event → ℕ → List Event → Bool
+busy before actor events = is_busy_turn (limits 2 9) 2 before actor 0 events
+
+-- The dispatcher makes no deed, nobody is behind the workers, and a worker that took nothing takes an open node.
+abbrev pub BusyTakes : Type 0
+BusyTakes = (busy [] 0 [] ≡ true)
+    × (busy [] 0 (Take 0 0 ∷ []) ≡ false)
+    × (busy [] 3 (Take 3 0 ∷ []) ≡ false)
+    × (busy [] 2 (Take 2 0 ∷ []) ≡ true)
+    × (busy [] 2 [] ≡ false)
+    × (busy [] 2 (Drop 0 ∷ []) ≡ true)
+    × (busy [] 2 (Exhaust ∷ []) ≡ true)
+    × (busy (Tick 1 0 ∷ Take 1 0 ∷ []) 2 [] ≡ false)
+
+-- A worker that took a node makes its deed on it, unless an outcome stands or the node is gone.
+abbrev pub BusyMerges : Type 0
+BusyMerges = (busy (Tick 1 0 ∷ Take 1 0 ∷ []) 1 (Expand 1 0 [] ∷ []) ≡ true)
+    × (busy (Tick 1 0 ∷ Take 1 0 ∷ []) 1 [] ≡ false)
+    × (busy (Tick 1 0 ∷ Take 1 0 ∷ []) 1 (Expand 1 3 [] ∷ []) ≡ false)
+    × (busy (Tick 1 0 ∷ Take 1 0 ∷ []) 1 (Drop 0 ∷ []) ≡ true)
+    × (busy (Tick 1 0 ∷ Take 1 0 ∷ []) 1 (Exhaust ∷ []) ≡ true)
+
+-- A comparison has its left side first.
+abbrev pub ComparedSides : Type 0
+ComparedSides = (holds (sample (Some (pos 5)) None) (Compare More (Fluent 0) two) ≡ true)
+    × (holds (sample (Some (pos 5)) None) (Compare Less (Fluent 0) two) ≡ false)
+
+-- A sum and a difference read what either part reads.
+abbrev pub Reads : Type 0
+Reads = (map (λ b. reads_at 0 (Expr-F.Sum b true)) (true ∷ false ∷ []) ≡ true ∷ true ∷ [])
+    × (map (λ b. reads_at 0 (Expr-F.Sum b false)) (true ∷ false ∷ []) ≡ true ∷ false ∷ [])
+    × (map (λ b. reads_at 0 (Expr-F.Difference b true)) (true ∷ false ∷ []) ≡ true ∷ true ∷ [])
+    × (map (λ b. reads_at 0 (Expr-F.Difference b false)) (true ∷ false ∷ []) ≡ true ∷ false ∷ [])
+
+-- an action that asks fact 0 and has this effect, where fact 0 holds at the start or not
+abbrev pub asking : Effect → List ℕ → Problem
+asking effect init = problem (instant (Lit 0 true ∷ []) (effect ∷ []) ∷ []) [] init [] []
+
+-- An item may take away what it asks.
+abbrev pub MetBefore : Type 0
+MetBefore = Passes (asking (Delete 0) (0 ∷ [])) (act 0 0 0 ∷ []) 0
+
+-- An item does not meet its own condition.
+abbrev pub NotMetByItself : Type 0
+NotMetByItself = ¬ (Passes (asking (Add 0) []) (act 0 0 0 ∷ []) 0)
+
+-- A goal that is reached at the end tick is reached.
+abbrev pub ReachedAtEnd : Type 0
+ReachedAtEnd = Valid (record sharing { goal = Lit 0 true ∷ [] }) (limits 1 0) (plan (act 0 0 0 ∷ []) 0)
+
+-- The empty plan, whose end is 0, where nothing happens.
+abbrev pub EmptyPlan : Type 0
+EmptyPlan = Valid (guarded []) (limits 0 0) (plan [] 0)
+
+-- A condition that an earlier group gives, and timed items one after the other.
+abbrev pub SoundByBefore : Type 0
+SoundByBefore = Sound sharing (opens (Start 0) ∷ opens (Start 1) ∷ []) × Sound mixed (opens (TimedAt 0) ∷ opens (TimedAt 1) ∷ [])
+
+-- An end closes the act that runs.
+abbrev pub TwoActs : Type 0
+TwoActs = acts_of mixed (opens (Start 0) ∷ opens (End 0) ∷ opens (Start 0) ∷ opens (End 0) ∷ [])
+    ≡ word_act 0 0 (Some 1) ∷ word_act 0 2 (Some 3) ∷ []
+
+-- The greatest schedule of one start stands at the horizon.
+abbrev pub GreatestOfOne : Type 0
+GreatestOfOne = IsGreatest (timings []) (limits 2 9) 4 [] (opens (Start 1) ∷ []) (schedule 9 9 0)
+
+-- The least one stands at the clock.
+abbrev pub LeastOfOne : Type 0
+LeastOfOne = IsLeast (timings []) (limits 2 9) 4 [] (opens (Start 1) ∷ []) (schedule 4 4 0)
+
+-- A live word is sound and has a schedule.
+abbrev pub LiveParts : Type 0
+LiveParts = (p : Problem) (l : Limits) (now : ℕ) (commits : List Timed) (w : List Mark) → Live p l now commits w
+    → Sound p w × ((x : Schedule) × IsSchedule p l now commits w x)
+
+-- The best of two nodes is the one of less rank, though its id is greater.
+abbrev pub BestOfTwo : Type 0
+BestOfTwo = IsBest (guarded (Lit 0 true ∷ [])) (node 3 [] None ∷ node 4 (opens (Start 0) ∷ []) (Some 1) ∷ []) (node 4 (opens (Start 0) ∷ []) (Some 1))
+
+-- The open nodes are those that nobody took.
+abbrev pub OpenNodes : Type 0
+OpenNodes = open_nodes (node 4 [] None ∷ node 6 [] (Some 2) ∷ []) ≡ node 4 [] None ∷ []
+
+-- A mark is among the live marks just where it makes a live word.
+abbrev pub MarksAreLive : Type 0
+MarksAreLive = (p : Problem) (l : Limits) (m : Machine) (w marks : List Mark) → AreLiveMarks p l m w marks
+    → (a : Mark) → (IsIn a marks → Live p l m.now m.commits (w ++ a ∷ [])) × (Live p l m.now m.commits (w ++ a ∷ []) → IsIn a marks)
+
+-- An Expand of a node is by the live marks of its word, which is no possible plan's word.
+abbrev pub Expanded : Type 0
+Expanded = (p : Problem) (l : Limits) (m : Machine) (actor id : ℕ) (marks : List Mark) → ExpandIsLegal p l m actor id marks
+    → (n : Node) × (n.id ≡ id) × AreLiveMarks p l m n.word marks
+    × ((plan : Plan) → Possible p l m.now m.commits plan → ¬ (spell p plan ≡ n.word))
+
+-- The node that is taken is the best of the open ones, and live.
+abbrev pub Taken : Type 0
+Taken = (p : Problem) (l : Limits) (m : Machine) (actor id : ℕ) → TakeIsLegal p l m actor id
+    → (n : Node) × (n.id ≡ id) × IsBest p (open_nodes m.nodes) n × Live p l m.now m.commits n.word
+
+-- A published plan has its node's word, and the times of its least schedule.
+abbrev pub PublishedLeast : Type 0
+PublishedLeast = (p : Problem) (l : Limits) (m : Machine) (actor id : ℕ) (plan : Plan) → PublishIsLegal p l m actor id plan
+    → (n : Node) × (n.id ≡ id) × (spell p plan ≡ n.word)
+    × ((x : Schedule) × IsLeast p l m.now m.commits n.word x × (plan ≡ plan_of p n.word x))

@@ -3,6 +3,8 @@ ghost use Rattle.tp_spec.specs.Pinned.{Lengths, Happenings, Running, ActOrder, C
 ghost use Rattle.tp_spec.specs.Pinned.{Spelled, RunsAfter, TimedInTurn, EndsInTurn, StartsInTurn, Joins, Closed, NotClosed, Follows, IsSoundWord, NotSoundWord, WordParts};
 ghost use Rattle.tp_spec.specs.Pinned.{Finishes, Awaited, Plans, Punctual, Shortest, Longest, Owing, NotRising, NotWithinHorizon, NotTimed, NotBeforeNext, TooShort, TooLong, NotEndingWithin, NotOpenLate, NotAtClockYet, SecondTooEarly, WrongCommitment, WrongLength, NotOwing, TooMany, GreatestIsLast, LeastIsFirst};
 ghost use Rattle.tp_spec.specs.Pinned.{Candidates, Ranks, BestNodes, MarkOrder};
+ghost use Rattle.tp_spec.specs.Pinned.{FirstState, TickStep, SettlingSteps, TakeStep, ExpandStep, Outcomes, Readings, NoneAfterOutcome, OfTakers, AtLimit, Dropped, Published, Exhausted, DueSoon, TurnEvents, LastTakes, Rests, BusyTakes, BusyMerges};
+ghost use Rattle.tp_spec.specs.Pinned.{ComparedSides, Reads, MetBefore, NotMetByItself, ReachedAtEnd, EmptyPlan, SoundByBefore, TwoActs, GreatestOfOne, LeastOfOne, LiveParts, BestOfTwo, OpenNodes, MarksAreLive, Expanded, Taken, PublishedLeast};
 
 /// States, values and conditions.
 pub fn states()
@@ -12,6 +14,7 @@ pub fn states()
     ensures literals { Literals }
     ensures undefined { UndefinedCompares }
     ensures start { StartStates }
+    ensures compared_sides { ComparedSides }
 {}
 
 /// Items, what they ask, and what they do to a state.
@@ -34,6 +37,7 @@ pub fn interference()
     ensures facts { FactsCollide }
     ensures changes { ChangesCollide }
     ensures items { Interferences }
+    ensures reads { Reads }
 {}
 
 /// What stands at a tick, and the states that a plan goes through.
@@ -50,6 +54,8 @@ pub fn courses()
     ensures by_none { KeptByNone }
     ensures on_way { KeptOnWay }
     ensures to_end { KeptToEnd }
+    ensures met_before { MetBefore }
+    ensures not_met_by_itself { NotMetByItself }
 {}
 
 /// Which plans are valid, and which stay possible.
@@ -65,6 +71,8 @@ pub fn plans()
     ensures not_ended { NotEnded }
     ensures not_met { NotMetAtEnd }
     ensures not_reached { NotReached }
+    ensures reached { ReachedAtEnd }
+    ensures empty { EmptyPlan }
     ensures same_acts { SameActs }
     ensures possible { AtClock }
     ensures not_at_clock { NotAtClock }
@@ -86,6 +94,8 @@ pub fn words()
     ensures sound { IsSoundWord }
     ensures not_sound { NotSoundWord }
     ensures parts { WordParts }
+    ensures sound_by_before { SoundByBefore }
+    ensures two_acts { TwoActs }
 {}
 
 /// Which schedules a word has, and the plan of one.
@@ -99,6 +109,9 @@ pub fn schedules()
     ensures owing { Owing }
     ensures greatest { GreatestIsLast }
     ensures least { LeastIsFirst }
+    ensures greatest_of_one { GreatestOfOne }
+    ensures least_of_one { LeastOfOne }
+    ensures live { LiveParts }
 {}
 
 /// What is no schedule of a word, part by part.
@@ -125,4 +138,41 @@ pub fn choices()
     ensures ranks { Ranks }
     ensures best { BestNodes }
     ensures marks { MarkOrder }
+    ensures best_of_two { BestOfTwo }
+    ensures open_nodes { OpenNodes }
+{}
+
+/// What each event does to the machine.
+pub fn events()
+    ensures first { FirstState }
+    ensures tick { TickStep }
+    ensures settling { SettlingSteps }
+    ensures take { TakeStep }
+    ensures expand { ExpandStep }
+    ensures outcomes { Outcomes }
+    ensures readings { Readings }
+{}
+
+/// What stands where an event is legal.
+pub fn legal_events()
+    ensures none_after_outcome { NoneAfterOutcome }
+    ensures of_takers { OfTakers }
+    ensures at_limit { AtLimit }
+    ensures dropped { Dropped }
+    ensures published { Published }
+    ensures exhausted { Exhausted }
+    ensures due_soon { DueSoon }
+    ensures marks { MarksAreLive }
+    ensures expanded { Expanded }
+    ensures taken { Taken }
+    ensures least { PublishedLeast }
+{}
+
+/// Which turns are busy.
+pub fn turns()
+    ensures events { TurnEvents }
+    ensures takes { LastTakes }
+    ensures rests { Rests }
+    ensures busy_takes { BusyTakes }
+    ensures busy_merges { BusyMerges }
 {}

@@ -10,7 +10,8 @@ mod problem;
 
 pub use event::{Cause, Event};
 pub use examples::{
-    choices, courses, interference, items, no_schedules, plans, schedules, states, words,
+    choices, courses, events, interference, items, legal_events, no_schedules, plans, schedules,
+    states, turns, words,
 };
 pub use expr::Expr;
 pub use list::{List, Name, NoMemory};

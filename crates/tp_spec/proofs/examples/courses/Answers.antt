@@ -13,3 +13,6 @@ returns-clause-by_other c = record { apart = refl; met = refl; exists = refl; ke
 
 pub returns-clause-to_end : goal.returns-clause-to_end
 returns-clause-to_end c = record { apart = refl; met = refl; exists = refl; kept = refl }
+
+pub returns-clause-met_before : goal.returns-clause-met_before
+returns-clause-met_before c = record { apart = refl; met = refl; exists = refl; kept = refl }

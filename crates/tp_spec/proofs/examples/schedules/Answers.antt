@@ -1,10 +1,12 @@
 use Rattle.std.proofs.Common.{◌≡◌, refl, arith, ℕ, zero, suc, ◌<◌, ◌≤◌, ◌==◌, Bool, true, false, List, [], ◌∷◌, Some, None}
-use Rattle.std.specs.Prelude.{IfSome, slice_get}
+use Rattle.std.specs.Prelude.{IfSome, IsTrue, slice_get, ◌-◌}
 use Rattle.std.specs.List.{filter}
-use Rattle.tp_spec.specs.Schedules.{Schedule, IsOnTime, IsInLength, finish}
+use Rattle.tp_spec.specs.Schedules.{Schedule, IsSchedule, IsOnTime, IsInLength, finish}
+use Rattle.tp_spec.specs.Lists.{IsIn}
+use Rattle.tp_spec.specs.declared.plan.Item.TheVariants.{Start}
 use Rattle.tp_spec.specs.Words.{Act}
 use Rattle.tp_spec.specs.declared.plan.Timed.{Timed}
-use Rattle.tp_spec.specs.Samples.{act, word_act, schedule, timings, at_five, limits}
+use Rattle.tp_spec.specs.Samples.{opens, act, word_act, schedule, timings, at_five, limits}
 use Rattle.tp_spec.proofs.Few.{below_one, below_two, next_below_two, one_in, two_in, some_none}
 use Rattle.tp_spec.proofs.examples.schedules.Goals as goal
 
@@ -112,3 +114,48 @@ returns-clause-greatest c p l now commits w x y h s = ((h.last y s).ticks, (h.la
 
 pub returns-clause-least : goal.returns-clause-least
 returns-clause-least c p l now commits w x y h s = ((h.first y s).ticks, (h.first y s).ends)
+
+alone : (n : ℕ) → 4 ≤ n → (b d : Bool) (k : ℕ) → OnTime (schedule n n 0) 4 (word_act 1 0 (Some 0) ∷ []) [] b d k
+alone n h true d zero = h
+alone n h true d (suc k) = tt
+alone n h false d k = tt
+
+one_start : (n : ℕ) → 4 ≤ n → n ≤ 9 → IsTrue (n - n == 0) → IsSchedule (timings []) (limits 2 9) 4 [] (opens (Start 1) ∷ []) (schedule n n 0)
+one_start n h k e =
+    let x = schedule n n 0 in
+    record {
+      rises = λ g b. absurd (omega (arith, b));
+      within = below_one (λ g. x.tick g ≤ 9) k;
+      timed = λ k. tt;
+      before_next = λ g b. tt;
+      lengths = one_in (IsInLength (timings []) (limits 2 9) x) (word_act 1 0 (Some 0))
+          (record { forward = omega arith; allowed = e; within = k });
+      open_late = λ a g i e b. one_in (λ a. a.closes ≡ None → x.tick g ≤ finish x a) (word_act 1 0 (Some 0)) (λ e. absurd (some_none 0 e)) a i e;
+      on_time = λ a k. alone n h (1 == a) false k;
+      late = λ a g i. absurd i;
+      few = omega arith;
+    }
+
+never_runs : (P : Act → Type 0) (a : Act) → IsIn a (word_act 1 0 (Some 0) ∷ []) → a.closes ≡ None → P a
+never_runs P a i e = one_in (λ a. a.closes ≡ None → P a) (word_act 1 0 (Some 0)) (λ e. absurd (some_none 0 e)) a i e
+
+pub returns-clause-greatest_of_one : goal.returns-clause-greatest_of_one
+returns-clause-greatest_of_one c = record {
+  is = one_start 9 (omega arith) (omega arith) refl;
+  last = λ y s. record {
+    ticks = below_one (λ g. y.tick g ≤ (schedule 9 9 0).tick g) (s.within 0 (omega arith));
+    ends = never_runs (λ a. y.end a.action ≤ 0);
+  };
+}
+
+pub returns-clause-least_of_one : goal.returns-clause-least_of_one
+returns-clause-least_of_one c = record {
+  is = one_start 4 (omega arith) (omega arith) refl;
+  first = λ y s. record {
+    ticks = below_one (λ g. (schedule 4 4 0).tick g ≤ y.tick g) (s.on_time 1 0);
+    ends = never_runs (λ a. 0 ≤ y.end a.action);
+  };
+}
+
+pub returns-clause-live : goal.returns-clause-live
+returns-clause-live c p l now commits w h = (h.sound, (h.schedule, h.is))

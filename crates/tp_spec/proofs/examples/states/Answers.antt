@@ -1,4 +1,4 @@
-use Rattle.std.proofs.Common.{ap, ◌∙◌}
+use Rattle.std.proofs.Common.{ap, refl, ◌∙◌}
 use Rattle.std.specs.Prelude.{pos, Some, None}
 use Rattle.tp_spec.specs.declared.expr.Expr.TheVariants.{Fluent}
 use Rattle.tp_spec.specs.declared.expr.Expr.TheOpen.{Expr-F}
@@ -17,3 +17,6 @@ returns-clause-values c =
 
 pub returns-clause-undefined : goal.returns-clause-undefined
 returns-clause-undefined c op e = ap (λ v. some_and (of_both (compares op) v (value (sample None None) e)) (λ b. b)) (value_fluent (sample None None) 0)
+
+pub returns-clause-compared_sides : goal.returns-clause-compared_sides
+returns-clause-compared_sides c = (simp (value_fluent, value_number) refl, simp (value_fluent, value_number) refl)

@@ -7,3 +7,6 @@ returns-clause-not_closed c = simp (value_number) refl
 
 pub returns-clause-sound : goal.returns-clause-sound
 returns-clause-sound c = record { follows = (refl, (refl, (refl, tt))) }
+
+pub returns-clause-sound_by_before : goal.returns-clause-sound_by_before
+returns-clause-sound_by_before c = (record { follows = (refl, (refl, tt)) }, record { follows = (refl, (refl, tt)) })
