@@ -406,6 +406,7 @@ Awaited = awaited (word_act 0 0 (Some 1) ∷ word_act 1 1 None ∷ []) (act 0 1 
 -- The plan of a word: its acts, and an end at its last group.
 abbrev pub Plans : Type 0
 Plans = (plan_of mixed (opens (Start 0) ∷ opens (End 0) ∷ []) (schedule 3 5 9) ≡ plan (act 0 3 2 ∷ []) 5)
+    × (plan_of mixed (opens (Start 1) ∷ []) (schedule 3 5 9) ≡ plan (act 1 3 0 ∷ []) 3)
     × (plan_of mixed [] (schedule 3 5 9) ≡ plan [] 0)
 
 -- which schedules there are with at most 2 acts, up to tick 9
