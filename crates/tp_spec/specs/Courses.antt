@@ -30,11 +30,12 @@ stands p acts t (End a) = is_durative p a && list_any (λ x. x.action == a && x.
 stands p acts t (Start a) = list_any (λ x. x.action == a && x.start == t) acts
 
 -- What stands at a tick, in item order. The tick is a happening where this is not empty.
--- PDDL 2.1, section 5 (the happening sequence of a plan).
+-- PDDL 2.1, section 5 (the happening sequence of a plan). The definition tries each item, the code sorts what stands.
 abbrev pub happening : Problem → List Timed → ℕ → List Item
 happening p acts t = filter (stands p acts t) (all_items p)
 
--- whether an act runs at a tick
+-- Whether an act runs at a tick: from its start on, and not at its end.
+-- PDDL 2.1, section 5 (an invariant is asked over an open interval), by the states after ticks.
 abbrev pub runs_at : ℕ → Timed → Bool
 runs_at t x = nat_le x.start t && nat_lt t (x.start + x.length)
 
@@ -53,7 +54,8 @@ keeps_invariants p acts t s = list_all (λ x. not (runs_at t x) || list_all (hol
 
 -- What is asked of one tick: no two items interfere, the conditions of each hold before, there is a state after, and
 -- the invariants of what runs hold in it.
--- PDDL 2.1, sections 5 and 6; an invariant is asked from the start tick on, so two starts may give each other's.
+-- PDDL 2.1, sections 5 and 6; an invariant is asked from the start tick on, so two starts may give each other's. The code
+-- judges happenings alone.
 pub record Passes (p : Problem) (acts : List Timed) (t : ℕ) : Type 0 where
   pub apart : IsTrue (each_pair (λ i j. not (interfere p i j)) (happening p acts t))
   pub met : IsTrue (some_and (state_before p acts t) (λ s. list_all (own p s) (happening p acts t)))
@@ -68,6 +70,7 @@ act_before x y = nat_lt x.start y.start || (x.start == y.start && (nat_lt x.acti
 -- action's range. `in_turn`: of two acts of one action the earlier ends no later than the later starts. `closing`: the
 -- end is 0 or a happening. `within`, `all_ended`: no later than the horizon, and no earlier than any act's end.
 -- PDDL 2.1, section 6 (validity); whole ticks, separation by a tick, no overlap and the end tick are this project's own.
+-- The code goes from one happening to the next, and stops at the first part that is broken.
 pub record Valid (p : Problem) (l : Limits) (plan : Plan) : Type 0 where
   pub in_order : IsTrue (each_next act_before plan.acts)
   pub few : length plan.acts ≤ l.actions
@@ -88,7 +91,7 @@ has_act acts x = list_any (same_act x) acts
 
 -- Which plans are still possible at a clock and after commitments: valid ones that contain each commitment, and whose
 -- other acts start at the clock or later, and later than each committed start of the same action.
--- This project's own.
+-- This project's own. The definition speaks of plans, the search of words.
 pub record Possible (p : Problem) (l : Limits) (now : ℕ) (commits : List Timed) (plan : Plan) : Type 0 where
   pub valid : Valid p l plan
   pub committed : IsTrue (list_all (has_act plan.acts) commits)

@@ -74,7 +74,7 @@ is_defined s (Change Assign x e) = is_some (value s e)
 
 -- An item's own conditions: the written ones hold, each right side that it uses is defined, and each fluent that it
 -- increases or decreases is.
--- PDDL 2.1, section 6 (applicability of a snap action).
+-- PDDL 2.1, section 6 (applicability of a snap action). That numbers are defined is asked beside what is written.
 abbrev pub own : Problem → State → Item → Bool
 own p s i = list_all (holds s) (conditions p i) && list_all (is_defined s) (effects p i)
 

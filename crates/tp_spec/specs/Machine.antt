@@ -32,6 +32,7 @@ unfoldable pub rank : Problem → List Mark → ℕ
 rank p w = unmet_goals p (progress p w)
 
 -- A node of the frontier: a word, and the actor that took it, or none while it is open.
+-- This project's own. The code keeps the word's rank with it.
 pub record Node : Type 0 where
   pub id : ℕ
   pub word : List Mark
@@ -130,7 +131,8 @@ pub record IsTaken (m : Machine) (actor id : ℕ) (n : Node) : Type 0 where
 abbrev pub mark_before : Mark → Mark → Bool
 mark_before a b = if a.fresh then b.fresh && item_before a.item b.item else b.fresh || item_before a.item b.item
 
--- exactly the marks that make a word a live word, in order
+-- Exactly the marks that make a word a live word, in order.
+-- This project's own. The definition speaks of all marks, the code tries those of the problem's items.
 pub record AreLiveMarks (p : Problem) (l : Limits) (m : Machine) (w : List Mark) (marks : List Mark) : Type 0 where
   pub in_order : IsTrue (each_next mark_before marks)
   pub live : (a : Mark) → IsIn a marks → Live p l m.now m.commits (w ++ a ∷ [])
@@ -194,7 +196,7 @@ pub record ExhaustIsLegal (p : Problem) (l : Limits) (m : Machine) : Type 0 wher
   pub hopeless : (plan : Plan) → ¬ (Possible p l m.now m.commits plan)
 
 -- Which events are legal. The only free choice is Drop.
--- This project's own.
+-- This project's own. The definition asks about all possible plans, the code about one word.
 abbrev pub Legal : Problem → Limits → Machine → Event → Type 0
 Legal p l m (Tick actor reading) = IsBetween p l m
 Legal p l m (Drop id) = DropIsLegal p l m id
@@ -252,7 +254,8 @@ abbrev pub AreLegal : Problem → Limits → Machine → List Event → Type 0
 AreLegal p l m [] = Unit {0}
 AreLegal p l m (e ∷ es) = Legal p l m e × AreLegal p l (step l m e) es
 
--- each event is legal where it stands
+-- Each event is legal where it stands.
+-- This project's own.
 pub record IsRun (p : Problem) (l : Limits) (history : List Event) : Type 0 where
   pub legal : AreLegal p l first history
 

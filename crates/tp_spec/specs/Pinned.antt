@@ -35,7 +35,8 @@ use Rattle.tp_spec.specs.Samples.{sample, two, problem, instant, mixed, sharing,
 
 -- 1 compared with 2, with 1, and 2 with 1
 abbrev pub outcomes : Op → List Bool
-outcomes op = compares op (pos 1) (pos 2) ∷ compares op (pos 1) (pos 1) ∷ compares op (pos 2) (pos 1) ∷ []
+outcomes op = compares op (pos 1) (pos 2) ∷ compares op (pos 1) (pos 1)
+    ∷ compares op (pos 2) (pos 1) ∷ []
 
 -- Each comparison has the left side first.
 abbrev pub Comparisons : Type 0
@@ -59,23 +60,30 @@ Values = value (sample (Some (pos 5)) None) (Difference (Fluent 0) two) ≡ Some
 
 -- A literal by membership, a negated one by its absence.
 abbrev pub Literals : Type 0
-Literals = map (holds (sample None None)) (Lit 0 true ∷ Lit 0 false ∷ Lit 1 true ∷ Lit 1 false ∷ []) ≡ true ∷ false ∷ false ∷ true ∷ []
+Literals = map (holds (sample None None)) (Lit 0 true ∷ Lit 0 false ∷ Lit 1 true ∷ Lit 1 false ∷ [])
+    ≡ true ∷ false ∷ false ∷ true ∷ []
 
 -- No comparison holds where a side is undefined.
 abbrev pub UndefinedCompares : Type 0
-UndefinedCompares = (op : Op) (e : Expr) → holds (sample None None) (Compare op (Fluent 0) e) ≡ false
+UndefinedCompares = (op : Op) (e : Expr) → holds (sample None None) (Compare op (Fluent 0) e)
+    ≡ false
 
 -- The facts of `init` are true at the start, and a fluent has its value there, or none.
 abbrev pub StartStates : Type 0
-StartStates = (map (initial (raising (Some (pos 5) ∷ None ∷ []))).fact (0 ∷ 1 ∷ []) ≡ true ∷ false ∷ [])
-    × (map (initial (raising (Some (pos 5) ∷ None ∷ []))).fluent (0 ∷ 1 ∷ 2 ∷ []) ≡ Some (pos 5) ∷ None ∷ None ∷ [])
+StartStates = (map (initial (raising (Some (pos 5) ∷ None ∷ []))).fact (0 ∷ 1 ∷ [])
+    ≡ true ∷ false ∷ [])
+    × (map (initial (raising (Some (pos 5) ∷ None ∷ []))).fluent (0 ∷ 1 ∷ 2 ∷ [])
+    ≡ Some (pos 5) ∷ None ∷ None ∷ [])
 
 -- Timed items come first, then ends, then starts, each by number; no item is before itself.
 abbrev pub ItemOrder : Type 0
 ItemOrder = (all_items mixed ≡ TimedAt 0 ∷ TimedAt 1 ∷ End 0 ∷ End 1 ∷ Start 0 ∷ Start 1 ∷ [])
-    × (map (item_before (End 0)) (all_items mixed) ≡ false ∷ false ∷ false ∷ true ∷ true ∷ true ∷ [])
-    × (map (item_before (Start 0)) (all_items mixed) ≡ false ∷ false ∷ false ∷ false ∷ false ∷ true ∷ [])
-    × (map (item_before (TimedAt 1)) (all_items mixed) ≡ false ∷ false ∷ true ∷ true ∷ true ∷ true ∷ [])
+    × (map (item_before (End 0)) (all_items mixed) ≡ false ∷ false ∷ false ∷ true ∷ true ∷ true
+    ∷ [])
+    × (map (item_before (Start 0)) (all_items mixed)
+    ≡ false ∷ false ∷ false ∷ false ∷ false ∷ true ∷ [])
+    × (map (item_before (TimedAt 1)) (all_items mixed)
+    ≡ false ∷ false ∷ true ∷ true ∷ true ∷ true ∷ [])
 
 -- What each item does and asks, what is asked while an action runs, and which actions last.
 abbrev pub Parts : Type 0
@@ -100,7 +108,8 @@ UndefinedRight = (is_defined (sample (Some (pos 5)) None) (Change Increase 0 (Fl
     × (is_defined (sample (Some (pos 5)) None) (Change Decrease 0 (Fluent 1)) ≡ false)
     × (is_defined (sample (Some (pos 5)) None) (Change Assign 0 (Fluent 1)) ≡ false)
 
--- An item can happen where its condition holds and its effects are defined, and not where one of them fails.
+-- An item can happen where its condition holds and its effects are defined, and not where one of
+-- them fails.
 abbrev pub Own : Type 0
 Own = (own (raising []) (sample (Some (pos 5)) None) (Start 0) ≡ true)
     × (own (raising []) (sample None None) (Start 0) ≡ false)
@@ -110,15 +119,17 @@ Own = (own (raising []) (sample (Some (pos 5)) None) (Start 0) ≡ true)
 abbrev pub five_after : List Effect → Option ℤ
 five_after es = (next (sample (Some (pos 5)) (Some (pos 3))) es).fluent 0
 
--- An increase adds and a decrease subtracts, two of them together; an assignment forgets the old value; a change of
--- another fluent leaves this one; a right side is read before.
+-- An increase adds and a decrease subtracts, two of them together; an assignment forgets the old
+-- value; a change of another fluent leaves this one; a right side is read before.
 abbrev pub Changes : Type 0
 Changes = (five_after (Change Increase 0 two ∷ []) ≡ Some (pos 7))
     × (five_after (Change Decrease 0 two ∷ []) ≡ Some (pos 3))
     × (five_after (Change Decrease 0 two ∷ Change Increase 0 two ∷ []) ≡ Some (pos 5))
     × (five_after (Change Assign 0 two ∷ []) ≡ Some (pos 2))
-    × (five_after (Change Assign 1 two ∷ Change Increase 0 (Fluent 1) ∷ Change Assign 1 two ∷ []) ≡ Some (pos 8))
-    × (five_after (Change Increase 1 two ∷ Change Decrease 1 two ∷ Change Assign 1 two ∷ []) ≡ Some (pos 5))
+    × (five_after (Change Assign 1 two ∷ Change Increase 0 (Fluent 1) ∷ Change Assign 1 two ∷ [])
+    ≡ Some (pos 8))
+    × (five_after (Change Increase 1 two ∷ Change Decrease 1 two ∷ Change Assign 1 two ∷ [])
+    ≡ Some (pos 5))
 
 -- whether facts 0 and 1 are true after these effects, where 0 was before
 abbrev pub facts_after : List Effect → List Bool
@@ -133,7 +144,8 @@ Facts = (facts_after [] ≡ true ∷ false ∷ [])
 
 -- The numbers of 64 bits.
 abbrev pub Fits : Type 0
-Fits = map fits (Some (pos (2 ^ 63 - 1)) ∷ Some (pos (2 ^ 63)) ∷ Some (negsuc (2 ^ 63 - 1)) ∷ Some (negsuc (2 ^ 63)) ∷ [])
+Fits = map fits (Some (pos (2 ^ 63 - 1)) ∷ Some (pos (2 ^ 63)) ∷ Some (negsuc (2 ^ 63 - 1))
+    ∷ Some (negsuc (2 ^ 63)) ∷ [])
     ≡ true ∷ false ∷ true ∷ false ∷ []
 
 -- whether there is a state after the start of an action that raises fluent 0 by 2 from this value
@@ -146,23 +158,27 @@ StatesAfter = (can_rise (pos (2 ^ 63 - 3)) ≡ true) × (can_rise (pos (2 ^ 63 -
 
 -- Effects on one fact disturb a condition on it, be it negated or not, and no other.
 abbrev pub LiteralsDisturbed : Type 0
-LiteralsDisturbed = (map (disturbs (Add 0)) (Lit 0 true ∷ Lit 0 false ∷ Lit 1 true ∷ []) ≡ true ∷ true ∷ false ∷ [])
-    × (map (disturbs (Delete 0)) (Lit 0 true ∷ Lit 0 false ∷ Lit 1 false ∷ []) ≡ true ∷ true ∷ false ∷ [])
+LiteralsDisturbed = (map (disturbs (Add 0)) (Lit 0 true ∷ Lit 0 false ∷ Lit 1 true ∷ [])
+    ≡ true ∷ true ∷ false ∷ [])
+    × (map (disturbs (Delete 0)) (Lit 0 true ∷ Lit 0 false ∷ Lit 1 false ∷ [])
+    ≡ true ∷ true ∷ false ∷ [])
 
 -- A change of a fluent disturbs a comparison that reads it on either side, and no other.
 abbrev pub ComparisonsDisturbed : Type 0
-ComparisonsDisturbed = (how : How) (op : Op) (e : Expr) → (disturbs (Change how 0 e) (Compare op (Fluent 0) two) ≡ true)
+ComparisonsDisturbed = (how : How) (op : Op) (e : Expr)
+    → (disturbs (Change how 0 e) (Compare op (Fluent 0) two) ≡ true)
     × (disturbs (Change how 0 e) (Compare op two (Fluent 0)) ≡ true)
     × (disturbs (Change how 0 e) (Compare op (Fluent 1) two) ≡ false)
     × (disturbs (Change how 0 e) (Lit 0 true) ≡ false)
 
 -- An add and a delete of one fact collide, two adds or two deletes don't.
 abbrev pub FactsCollide : Type 0
-FactsCollide = (map (collides (Add 0)) (Add 0 ∷ Delete 0 ∷ Delete 1 ∷ []) ≡ false ∷ true ∷ false ∷ [])
+FactsCollide = (map (collides (Add 0)) (Add 0 ∷ Delete 0 ∷ Delete 1 ∷ [])
+    ≡ false ∷ true ∷ false ∷ [])
     × (map (collides (Delete 0)) (Delete 0 ∷ Add 0 ∷ Add 1 ∷ []) ≡ false ∷ true ∷ false ∷ [])
 
--- Two increases or decreases of one fluent don't collide, also where the other reads its own fluent alone; an assignment
--- collides with each; so does what the other reads.
+-- Two increases or decreases of one fluent don't collide, also where the other reads its own fluent
+-- alone; an assignment collides with each; so does what the other reads.
 abbrev pub ChangesCollide : Type 0
 ChangesCollide = (e : Expr) → (collides (Change Increase 0 e) (Change Increase 0 two) ≡ false)
     × (collides (Change Increase 0 e) (Change Decrease 0 two) ≡ false)
@@ -173,15 +189,20 @@ ChangesCollide = (e : Expr) → (collides (Change Increase 0 e) (Change Increase
     × (collides (Change Assign 0 e) (Change Assign 1 two) ≡ false)
     × (collides (Change Increase 0 e) (Change Increase 1 (Fluent 0)) ≡ true)
 
--- Items interfere in both directions: an add with each condition on its fact, and with a delete of it.
+-- Items interfere in both directions: an add with each condition on its fact, and with a delete of
+-- it.
 abbrev pub Interferences : Type 0
-Interferences = (map (interfere sharing (Start 0)) (Start 1 ∷ Start 2 ∷ Start 3 ∷ Start 4 ∷ []) ≡ true ∷ true ∷ true ∷ false ∷ [])
-    × (map (λ i. interfere sharing i (Start 0)) (Start 1 ∷ Start 2 ∷ Start 3 ∷ Start 4 ∷ []) ≡ true ∷ true ∷ true ∷ false ∷ [])
+Interferences = (map (interfere sharing (Start 0)) (Start 1 ∷ Start 2 ∷ Start 3 ∷ Start 4 ∷ [])
+    ≡ true ∷ true ∷ true ∷ false ∷ [])
+    × (map (λ i. interfere sharing i (Start 0)) (Start 1 ∷ Start 2 ∷ Start 3 ∷ Start 4 ∷ [])
+    ≡ true ∷ true ∷ true ∷ false ∷ [])
     × (interfere sharing (Start 1) (Start 2) ≡ false)
 
--- A length is 0 of an instant action, from the least to the most of one that lasts, and none of what is no action.
+-- A length is 0 of an instant action, from the least to the most of one that lasts, and none of
+-- what is no action.
 abbrev pub Lengths : Type 0
-Lengths = (map (in_range mixed 0) (1 ∷ 2 ∷ 3 ∷ 4 ∷ 5 ∷ []) ≡ false ∷ true ∷ true ∷ true ∷ false ∷ [])
+Lengths = (map (in_range mixed 0) (1 ∷ 2 ∷ 3 ∷ 4 ∷ 5 ∷ [])
+    ≡ false ∷ true ∷ true ∷ true ∷ false ∷ [])
     × (map (in_range mixed 1) (0 ∷ 1 ∷ []) ≡ true ∷ false ∷ [])
     × (map (in_range mixed 2) (0 ∷ 1 ∷ []) ≡ false ∷ false ∷ [])
 
@@ -198,12 +219,15 @@ Happenings = (happening mixed mixed_acts 1 ≡ Start 0 ∷ [])
 
 -- An act runs from its start on, and not at its end.
 abbrev pub Running : Type 0
-Running = map (λ t. runs_at t (act 0 2 3)) (1 ∷ 2 ∷ 4 ∷ 5 ∷ 6 ∷ []) ≡ false ∷ true ∷ true ∷ false ∷ false ∷ []
+Running = map (λ t. runs_at t (act 0 2 3)) (1 ∷ 2 ∷ 4 ∷ 5 ∷ 6 ∷ [])
+    ≡ false ∷ true ∷ true ∷ false ∷ false ∷ []
 
 -- Acts are in order by start, then action, then length.
 abbrev pub ActOrder : Type 0
-ActOrder = (map (act_before (act 1 1 1)) (act 1 1 1 ∷ act 1 1 2 ∷ act 2 1 0 ∷ act 0 2 0 ∷ []) ≡ true ∷ true ∷ true ∷ true ∷ [])
-    × (map (act_before (act 1 1 1)) (act 1 1 0 ∷ act 0 1 2 ∷ act 2 0 2 ∷ []) ≡ false ∷ false ∷ false ∷ [])
+ActOrder = (map (act_before (act 1 1 1)) (act 1 1 1 ∷ act 1 1 2 ∷ act 2 1 0 ∷ act 0 2 0 ∷ [])
+    ≡ true ∷ true ∷ true ∷ true ∷ [])
+    × (map (act_before (act 1 1 1)) (act 1 1 0 ∷ act 0 1 2 ∷ act 2 0 2 ∷ [])
+    ≡ false ∷ false ∷ false ∷ [])
 
 -- whether fact 0 is true in a state, none where there is no state
 abbrev pub known : Option State → Option Bool
@@ -224,7 +248,8 @@ Apart = ¬ (Passes sharing (act 0 0 0 ∷ act 3 0 0 ∷ []) 0)
 abbrev pub Met : Type 0
 Met = ¬ (Passes (guarded []) (act 4 0 0 ∷ []) 0)
 
--- An invariant is asked from the start tick on, after what happens there, so an own start may give it.
+-- An invariant is asked from the start tick on, after what happens there, so an own start may give
+-- it.
 abbrev pub KeptByStart : Type 0
 KeptByStart = Passes (guarded []) (act 0 0 2 ∷ []) 0
 
@@ -290,11 +315,13 @@ NotReached = ¬ (Valid (guarded (Lit 1 true ∷ [])) (limits 2 4) (plan [] 0))
 
 -- Acts are the same where action, start and length are.
 abbrev pub SameActs : Type 0
-SameActs = map (has_act (act 0 1 2 ∷ [])) (act 0 1 2 ∷ act 1 1 2 ∷ act 0 2 2 ∷ act 0 1 3 ∷ []) ≡ true ∷ false ∷ false ∷ false ∷ []
+SameActs = map (has_act (act 0 1 2 ∷ [])) (act 0 1 2 ∷ act 1 1 2 ∷ act 0 2 2 ∷ act 0 1 3 ∷ [])
+    ≡ true ∷ false ∷ false ∷ false ∷ []
 
 -- which commitments and clock leave the plan possible that does action 3 at 1 and at 3
 abbrev pub StaysPossible : ℕ → List Timed → Type 0
-StaysPossible now commits = Possible (guarded []) (limits 2 4) now commits (plan (act 3 1 0 ∷ act 3 3 0 ∷ []) 3)
+StaysPossible now commits = Possible (guarded []) (limits 2 4) now commits (plan (act 3 1 0
+    ∷ act 3 3 0 ∷ []) 3)
 
 -- Possible: a commitment before the clock, and another act at the clock.
 abbrev pub AtClock : Type 0
@@ -312,12 +339,15 @@ NotLater = ¬ (StaysPossible 0 (act 3 3 0 ∷ []))
 abbrev pub NotCommitted : Type 0
 NotCommitted = ¬ (StaysPossible 0 (act 3 0 0 ∷ []))
 
--- The word of a plan has each happening up to its end: the first item of each opens a group, the others join it.
+-- The word of a plan has each happening up to its end: the first item of each opens a group, the
+-- others join it.
 abbrev pub Spelled : Type 0
 Spelled = (spell mixed (plan mixed_acts 2) ≡ opens (Start 0) ∷ [])
-    × (spell mixed (plan mixed_acts 3) ≡ opens (Start 0) ∷ opens (TimedAt 0) ∷ joins (End 0) ∷ joins (Start 1) ∷ [])
+    × (spell mixed (plan mixed_acts 3) ≡ opens (Start 0) ∷ opens (TimedAt 0) ∷ joins (End 0)
+    ∷ joins (Start 1) ∷ [])
 
--- An action runs after a group in which it starts, if it lasts, and after one in which it does not end.
+-- An action runs after a group in which it starts, if it lasts, and after one in which it does not
+-- end.
 abbrev pub RunsAfter : Type 0
 RunsAfter = (runs_after mixed (reading (Start 0 ∷ []) false 0) 0 ≡ true)
     × (runs_after mixed (reading (Start 1 ∷ []) false 0) 1 ≡ false)
@@ -327,7 +357,8 @@ RunsAfter = (runs_after mixed (reading (Start 0 ∷ []) false 0) 0 ≡ true)
 
 -- Timed items come in order without omission.
 abbrev pub TimedInTurn : Type 0
-TimedInTurn = (map (in_turn mixed (reading [] false 0)) (TimedAt 0 ∷ TimedAt 1 ∷ []) ≡ true ∷ false ∷ [])
+TimedInTurn = (map (in_turn mixed (reading [] false 0)) (TimedAt 0 ∷ TimedAt 1 ∷ [])
+    ≡ true ∷ false ∷ [])
     × (map (in_turn mixed (reading [] false 1)) (TimedAt 0 ∷ TimedAt 1 ∷ []) ≡ false ∷ true ∷ [])
     × (in_turn mixed (reading [] false 2) (TimedAt 2) ≡ false)
 
@@ -340,16 +371,19 @@ EndsInTurn = (in_turn mixed (reading [] true 0) (End 0) ≡ true)
 
 -- What starts is an action that does not run, or ended earlier in this group.
 abbrev pub StartsInTurn : Type 0
-StartsInTurn = (map (in_turn mixed (reading [] false 0)) (Start 0 ∷ Start 1 ∷ Start 2 ∷ []) ≡ true ∷ true ∷ false ∷ [])
+StartsInTurn = (map (in_turn mixed (reading [] false 0)) (Start 0 ∷ Start 1 ∷ Start 2 ∷ [])
+    ≡ true ∷ true ∷ false ∷ [])
     × (in_turn mixed (reading [] true 0) (Start 0) ≡ false)
     × (in_turn mixed (reading (End 0 ∷ []) true 0) (Start 0) ≡ true)
 
--- An item joins a group behind the last one in item order, with its conditions met before the group, and interferes with
--- none of it.
+-- An item joins a group behind the last one in item order, with its conditions met before the
+-- group, and interferes with none of it.
 abbrev pub Joins : Type 0
-Joins = (map (may_join sharing (reading (Start 1 ∷ []) false 0)) (Start 0 ∷ Start 1 ∷ Start 2 ∷ Start 3 ∷ Start 4 ∷ [])
+Joins = (map (may_join sharing (reading (Start 1 ∷ []) false 0)) (Start 0 ∷ Start 1 ∷ Start 2
+    ∷ Start 3 ∷ Start 4 ∷ [])
     ≡ false ∷ false ∷ false ∷ false ∷ true ∷ [])
-    × (map (may_join sharing (reading [] false 0)) (Start 0 ∷ Start 1 ∷ Start 2 ∷ []) ≡ true ∷ true ∷ false ∷ [])
+    × (map (may_join sharing (reading [] false 0)) (Start 0 ∷ Start 1 ∷ Start 2 ∷ [])
+    ≡ true ∷ true ∷ false ∷ [])
 
 -- whether a group may be closed that is the first of the guarded problem
 abbrev pub closes_first : List Item → Bool
@@ -366,12 +400,21 @@ Closed = (closes_first [] ≡ true)
 
 -- A group is not closed where there is no state after it.
 abbrev pub NotClosed : Type 0
-NotClosed = closes (raising []) (record { before = sample (Some (pos (2 ^ 63 - 2))) None; group = Start 0 ∷ []; timed = 0; running = λ a. false }) ≡ false
+NotClosed = closes (raising []) (record {
+  before = sample (Some (pos
+      (2 ^ 63 - 2))) None;
+  group = Start 0 ∷ [];
+  timed = 0;
+  running = λ a. false;
+}) ≡ false
 
--- The last group is judged when the next one opens, and not when it is joined; there is none at the start.
+-- The last group is judged when the next one opens, and not when it is joined; there is none at the
+-- start.
 abbrev pub Follows : Type 0
-Follows = (map (may_follow (guarded []) (at_start (guarded []))) (opens (Start 2) ∷ joins (Start 2) ∷ []) ≡ true ∷ false ∷ [])
-    × (map (may_follow (guarded []) (progress (guarded []) (opens (Start 2) ∷ []))) (opens (Start 3) ∷ joins (Start 3) ∷ [])
+Follows = (map (may_follow (guarded []) (at_start (guarded []))) (opens (Start 2) ∷ joins (Start 2)
+    ∷ []) ≡ true ∷ false ∷ [])
+    × (map (may_follow (guarded []) (progress (guarded []) (opens (Start 2) ∷ []))) (opens (Start 3)
+    ∷ joins (Start 3) ∷ [])
     ≡ false ∷ true ∷ [])
 
 -- An act that ends in the group in which the next one of its action starts.
@@ -384,13 +427,16 @@ NotSoundWord = ¬ (Sound (guarded []) (opens (Start 2) ∷ opens (End 2) ∷ [])
 
 -- a word in which action 0 ends and starts again at a timed item, where action 1 starts too
 abbrev pub long_word : List Mark
-long_word = opens (Start 0) ∷ opens (TimedAt 0) ∷ joins (End 0) ∷ joins (Start 0) ∷ joins (Start 1) ∷ []
+long_word = opens (Start 0) ∷ opens (TimedAt 0) ∷ joins (End 0) ∷ joins (Start 0) ∷ joins (Start 1)
+    ∷ []
 
--- The groups of a word, those of its timed items, and its acts with the groups of their starts and ends.
+-- The groups of a word, those of its timed items, and its acts with the groups of their starts and
+-- ends.
 abbrev pub WordParts : Type 0
 WordParts = (groups long_word ≡ 2)
     × (timed_of long_word ≡ 1 ∷ [])
-    × (acts_of mixed long_word ≡ word_act 0 0 (Some 1) ∷ word_act 0 1 None ∷ word_act 1 1 (Some 1) ∷ [])
+    × (acts_of mixed long_word ≡ word_act 0 0 (Some 1) ∷ word_act 0 1 None ∷ word_act 1 1 (Some 1)
+    ∷ [])
 
 -- An act ends at the tick of the group that closes it, or at an end of its own.
 abbrev pub Finishes : Type 0
@@ -400,12 +446,14 @@ Finishes = (finish (schedule 3 4 9) (word_act 0 0 (Some 1)) ≡ 4)
 
 -- The commitments of an action behind as many as a word has starts of it.
 abbrev pub Awaited : Type 0
-Awaited = awaited (word_act 0 0 (Some 1) ∷ word_act 1 1 None ∷ []) (act 0 1 2 ∷ act 0 4 2 ∷ act 2 5 0 ∷ [])
+Awaited = awaited (word_act 0 0 (Some 1) ∷ word_act 1 1 None ∷ []) (act 0 1 2 ∷ act 0 4 2
+    ∷ act 2 5 0 ∷ [])
     ≡ act 0 4 2 ∷ act 2 5 0 ∷ []
 
 -- The plan of a word: its acts, and an end at its last group.
 abbrev pub Plans : Type 0
-Plans = (plan_of mixed (opens (Start 0) ∷ opens (End 0) ∷ []) (schedule 3 5 9) ≡ plan (act 0 3 2 ∷ []) 5)
+Plans = (plan_of mixed (opens (Start 0) ∷ opens (End 0) ∷ []) (schedule 3 5 9)
+    ≡ plan (act 0 3 2 ∷ []) 5)
     × (plan_of mixed (opens (Start 1) ∷ []) (schedule 3 5 9) ≡ plan (act 1 3 0 ∷ []) 3)
     × (plan_of mixed [] (schedule 3 5 9) ≡ plan [] 0)
 
@@ -425,7 +473,8 @@ whole = opens (Start 0) ∷ opens (End 0) ∷ []
 abbrev pub begun : List Mark
 begun = opens (Start 0) ∷ opens (Start 1) ∷ []
 
--- A schedule: the first start of an action is its first commitment, also before the clock, the second one at the clock.
+-- A schedule: the first start of an action is its first commitment, also before the clock, the
+-- second one at the clock.
 abbrev pub Punctual : Type 0
 Punctual = Fitting at_five 4 (act 1 3 0 ∷ []) twice (schedule 3 4 0)
 
@@ -433,7 +482,8 @@ Punctual = Fitting at_five 4 (act 1 3 0 ∷ []) twice (schedule 3 4 0)
 abbrev pub Shortest : Type 0
 Shortest = Fitting [] 0 [] whole (schedule 7 9 0)
 
--- A schedule: a running act of the greatest length, which ends at the last group, and a timed item at its tick.
+-- A schedule: a running act of the greatest length, which ends at the last group, and a timed item
+-- at its tick.
 abbrev pub Longest : Type 0
 Longest = Fitting at_five 0 [] (opens (Start 0) ∷ opens (TimedAt 0) ∷ []) (schedule 2 5 5)
 
@@ -447,7 +497,8 @@ NotRising = ¬ (Fitting [] 0 [] twice (schedule 3 3 0))
 
 -- No schedule: a group past the horizon.
 abbrev pub NotWithinHorizon : Type 0
-NotWithinHorizon = ¬ (IsSchedule (timings at_five) (limits 2 4) 0 [] (opens (TimedAt 0) ∷ []) (schedule 5 5 0))
+NotWithinHorizon = ¬ (IsSchedule (timings at_five) (limits 2 4) 0 [] (opens (TimedAt 0)
+    ∷ []) (schedule 5 5 0))
 
 -- No schedule: a timed item at another tick than its own.
 abbrev pub NotTimed : Type 0
@@ -477,7 +528,8 @@ NotOpenLate = ¬ (Fitting [] 0 [] begun (schedule 3 6 5))
 abbrev pub NotAtClockYet : Type 0
 NotAtClockYet = ¬ (Fitting [] 4 [] (opens (Start 1) ∷ []) (schedule 3 3 0))
 
--- No schedule: the second start of an action before the clock, and the first one as it was committed.
+-- No schedule: the second start of an action before the clock, and the first one as it was
+-- committed.
 abbrev pub SecondTooEarly : Type 0
 SecondTooEarly = ¬ (Fitting [] 5 (act 1 3 0 ∷ []) twice (schedule 3 4 0))
 
@@ -499,14 +551,16 @@ TooMany = ¬ (Fitting [] 0 (act 0 8 2 ∷ []) twice (schedule 3 4 0))
 
 -- No schedule has a later group than the greatest one, nor a later end of what runs.
 abbrev pub GreatestIsLast : Type 0
-GreatestIsLast = (p : Problem) (l : Limits) (now : ℕ) (commits : List Timed) (w : List Mark) (x y : Schedule)
+GreatestIsLast = (p : Problem) (l : Limits) (now : ℕ) (commits : List Timed) (w : List Mark)
+    (x y : Schedule)
     → IsGreatest p l now commits w x → IsSchedule p l now commits w y
     → ((g : ℕ) → g < groups w → y.tick g ≤ x.tick g)
     × ((a : Act) → IsIn a (acts_of p w) → a.closes ≡ None → y.end a.action ≤ x.end a.action)
 
 -- No schedule has an earlier group than the least one, nor an earlier end of what runs.
 abbrev pub LeastIsFirst : Type 0
-LeastIsFirst = (p : Problem) (l : Limits) (now : ℕ) (commits : List Timed) (w : List Mark) (x y : Schedule)
+LeastIsFirst = (p : Problem) (l : Limits) (now : ℕ) (commits : List Timed) (w : List Mark)
+    (x y : Schedule)
     → IsLeast p l now commits w x → IsSchedule p l now commits w y
     → ((g : ℕ) → g < groups w → x.tick g ≤ y.tick g)
     × ((a : Act) → IsIn a (acts_of p w) → a.closes ≡ None → x.end a.action ≤ y.end a.action)
@@ -515,26 +569,39 @@ LeastIsFirst = (p : Problem) (l : Limits) (now : ℕ) (commits : List Timed) (w 
 abbrev pub Candidates : Type 0
 Candidates = (candidate [] [] (acts_of mixed long_word) ≡ Some (word_act 0 0 (Some 1)))
     × (candidate [] (act 0 1 2 ∷ []) (acts_of mixed long_word) ≡ Some (word_act 0 1 None))
-    × (candidate [] (act 0 1 2 ∷ act 0 3 2 ∷ []) (acts_of mixed long_word) ≡ Some (word_act 1 1 (Some 1)))
+    × (candidate [] (act 0 1 2 ∷ act 0 3 2 ∷ []) (acts_of mixed long_word)
+    ≡ Some (word_act 1 1 (Some 1)))
     × (candidate [] (act 1 3 0 ∷ act 0 1 2 ∷ act 0 3 2 ∷ []) (acts_of mixed long_word) ≡ None)
 
--- The rank counts the goal parts that do not hold, and all of them where there is no state after the last group.
+-- The rank counts the goal parts that do not hold, and all of them where there is no state after
+-- the last group.
 abbrev pub Ranks : Type 0
-Ranks = (unmet_goals (guarded (Lit 0 true ∷ Lit 1 true ∷ Lit 1 false ∷ [])) (reading [] false 0) ≡ 1)
-    × (unmet_goals (guarded (Lit 0 true ∷ Lit 1 true ∷ Lit 1 false ∷ [])) (reading (Start 1 ∷ []) false 0) ≡ 2)
+Ranks = (unmet_goals (guarded (Lit 0 true ∷ Lit 1 true ∷ Lit 1 false ∷ [])) (reading [] false 0)
+    ≡ 1)
+    × (unmet_goals (guarded (Lit 0 true ∷ Lit 1 true ∷ Lit 1 false ∷ [])) (reading (Start 1
+    ∷ []) false 0) ≡ 2)
     × (unmet_goals (record (raising []) { goal = Lit 0 true ∷ Lit 1 true ∷ [] })
-    (record { before = sample (Some (pos (2 ^ 63 - 2))) None; group = Start 0 ∷ []; timed = 0; running = λ a. false }) ≡ 2)
+    (record {
+      before = sample (Some (pos (2 ^ 63 - 2))) None;
+      group = Start 0
+          ∷ [];
+      timed = 0;
+      running = λ a. false;
+    }) ≡ 2)
 
 -- The best node has the least rank, and of those the least id.
 abbrev pub BestNodes : Type 0
 BestNodes = map (no_worse (guarded (Lit 0 true ∷ [])) (node 3 [] None))
-    (node 3 [] None ∷ node 2 [] None ∷ node 4 [] None ∷ node 4 (opens (Start 0) ∷ []) None ∷ node 2 (opens (Start 1) ∷ []) None ∷ [])
+    (node 3 [] None ∷ node 2 [] None ∷ node 4 [] None ∷ node 4 (opens (Start 0) ∷ []) None
+    ∷ node 2 (opens (Start 1) ∷ []) None ∷ [])
     ≡ true ∷ false ∷ true ∷ false ∷ false ∷ []
 
 -- Marks that join come before marks that open, each kind in item order.
 abbrev pub MarkOrder : Type 0
-MarkOrder = (map (mark_before (joins (Start 0))) (joins (Start 0) ∷ joins (Start 1) ∷ joins (End 1) ∷ opens (End 0) ∷ []) ≡ false ∷ true ∷ false ∷ true ∷ [])
-    × (map (mark_before (opens (Start 0))) (opens (Start 0) ∷ opens (Start 1) ∷ opens (End 1) ∷ joins (Start 1) ∷ []) ≡ false ∷ true ∷ false ∷ false ∷ [])
+MarkOrder = (map (mark_before (joins (Start 0))) (joins (Start 0) ∷ joins (Start 1) ∷ joins (End 1)
+    ∷ opens (End 0) ∷ []) ≡ false ∷ true ∷ false ∷ true ∷ [])
+    × (map (mark_before (opens (Start 0))) (opens (Start 0) ∷ opens (Start 1) ∷ opens (End 1)
+    ∷ joins (Start 1) ∷ []) ≡ false ∷ true ∷ false ∷ false ∷ [])
 
 -- two nodes of a turn of actor 2, who took the second one; 7 ids were given
 abbrev pub amid : Machine
@@ -549,7 +616,15 @@ amid = record {
 
 -- The machine at the start: the open root with id 0 and the empty word, and nothing else.
 abbrev pub FirstState : Type 0
-FirstState = first ≡ record { now = 0; commits = []; nodes = node 0 [] None ∷ []; made = 1; turn = None; over = false }
+FirstState = first ≡ record {
+  now = 0;
+  commits = [];
+  nodes = node 0 [] None
+      ∷ [];
+  made = 1;
+  turn = None;
+  over = false;
+}
 
 -- A Tick gives the turn to its actor, with no deed made; the clock does not go back.
 abbrev pub TickStep : Type 0
@@ -559,7 +634,8 @@ TickStep = ((step (limits 2 9) amid (Tick 5 2)).turn ≡ Some (record { actor = 
 -- A Drop takes its node out, and a Dispatch puts its act behind the others.
 abbrev pub SettlingSteps : Type 0
 SettlingSteps = (step (limits 2 9) amid (Drop 6) ≡ record amid { nodes = node 4 [] None ∷ [] })
-    × (step (limits 2 9) amid (Dispatch (act 1 5 0)) ≡ record amid { commits = act 0 1 2 ∷ act 1 5 0 ∷ [] })
+    × (step (limits 2 9) amid (Dispatch (act 1 5 0))
+    ≡ record amid { commits = act 0 1 2 ∷ act 1 5 0 ∷ [] })
 
 -- A Take marks its node alone, and is a deed.
 abbrev pub TakeStep : Type 0
@@ -570,39 +646,51 @@ TakeStep = step (limits 2 9) amid (Take 2 4) ≡ record amid {
 
 -- An Expand replaces its node by open ones with the next ids, behind the others, one for each mark.
 abbrev pub ExpandStep : Type 0
-ExpandStep = step (limits 2 9) amid (Expand 2 6 (joins (Start 1) ∷ opens (End 0) ∷ [])) ≡ record amid {
-  nodes = node 4 [] None ∷ node 7 (opens (Start 0) ∷ joins (Start 1) ∷ []) None ∷ node 8 (opens (Start 0) ∷ opens (End 0) ∷ []) None ∷ [];
-  made = 9;
-  turn = Some (record { actor = 2; acted = true });
-}
+ExpandStep = step (limits 2 9) amid (Expand 2 6 (joins (Start 1) ∷ opens (End 0) ∷ []))
+    ≡ record amid {
+      nodes = node 4 [] None ∷ node 7 (opens (Start 0) ∷ joins (Start 1) ∷ []) None
+          ∷ node 8 (opens (Start 0) ∷ opens (End 0) ∷ []) None ∷ [];
+      made = 9;
+      turn = Some (record { actor = 2; acted = true });
+    }
 
 -- An outcome stands after a Publish, a Limit, an Exhaust and a Halt, and after no other event.
 abbrev pub Outcomes : Type 0
-Outcomes = (map (λ e. (step (limits 2 9) amid e).over) (Publish 2 6 (plan [] 0) ∷ Limit 2 6 7 9 ∷ Exhaust ∷ Halt Script ∷ [])
+Outcomes = (map (λ e. (step (limits 2 9) amid e).over) (Publish 2 6 (plan [] 0) ∷ Limit 2 6 7 9
+    ∷ Exhaust ∷ Halt Script ∷ [])
     ≡ true ∷ true ∷ true ∷ true ∷ [])
-    × (map (λ e. (step (limits 2 9) amid e).over) (Tick 1 4 ∷ Drop 4 ∷ Dispatch (act 1 5 0) ∷ Take 2 4 ∷ Expand 2 6 [] ∷ [])
+    × (map (λ e. (step (limits 2 9) amid e).over) (Tick 1 4 ∷ Drop 4 ∷ Dispatch (act 1 5 0)
+    ∷ Take 2 4 ∷ Expand 2 6 [] ∷ [])
     ≡ false ∷ false ∷ false ∷ false ∷ false ∷ [])
 
 -- The readings of a history are those of its Ticks, in order.
 abbrev pub Readings : Type 0
-Readings = (readings (Tick 1 8 ∷ Take 1 0 ∷ Tick 0 3 ∷ []) ≡ 8 ∷ 3 ∷ []) × (ticks (Tick 1 8 ∷ Take 1 0 ∷ Tick 0 3 ∷ []) ≡ 2)
+Readings = (readings (Tick 1 8 ∷ Take 1 0 ∷ Tick 0 3 ∷ []) ≡ 8 ∷ 3 ∷ [])
+    × (ticks (Tick 1 8 ∷ Take 1 0 ∷ Tick 0 3 ∷ []) ≡ 2)
 
 -- No event is legal where an outcome stands.
 abbrev pub NoneAfterOutcome : Type 0
-NoneAfterOutcome = (p : Problem) (l : Limits) (m : Machine) (e : Event) → m.over ≡ true → ¬ (Legal p l m e)
+NoneAfterOutcome = (p : Problem) (l : Limits) (m : Machine) (e : Event) → m.over ≡ true
+    → ¬ (Legal p l m e)
 
 -- a node of this id that this actor took
 abbrev pub HasTaken : Machine → ℕ → ℕ → Type 0
 HasTaken m actor id = (n : Node) × IsIn n m.nodes × (n.id ≡ id) × (n.taker ≡ Some actor)
 
--- Who expands, publishes or ends by the limit has the turn, has made no deed in it, and took the node.
+-- Who expands, publishes or ends by the limit has the turn, has made no deed in it, and took the
+-- node.
 abbrev pub OfTakers : Type 0
-OfTakers = (p : Problem) (l : Limits) (m : Machine) (actor id made : ℕ) (marks : List Mark) (plan : Plan)
-    → (ExpandIsLegal p l m actor id marks → (m.turn ≡ Some (record { actor = actor; acted = false })) × HasTaken m actor id)
-    × (PublishIsLegal p l m actor id plan → (m.turn ≡ Some (record { actor = actor; acted = false })) × HasTaken m actor id)
-    × (LimitIsLegal p l m actor id made made → (m.turn ≡ Some (record { actor = actor; acted = false })) × HasTaken m actor id)
+OfTakers = (p : Problem) (l : Limits) (m : Machine) (actor id made : ℕ) (marks : List Mark)
+    (plan : Plan)
+    → (ExpandIsLegal p l m actor id marks → (m.turn
+    ≡ Some (record { actor = actor; acted = false })) × HasTaken m actor id)
+    × (PublishIsLegal p l m actor id plan → (m.turn
+    ≡ Some (record { actor = actor; acted = false })) × HasTaken m actor id)
+    × (LimitIsLegal p l m actor id made made → (m.turn
+    ≡ Some (record { actor = actor; acted = false })) × HasTaken m actor id)
 
--- An Expand gives at most as many ids as may be given, and a Limit stands where the marks would give more.
+-- An Expand gives at most as many ids as may be given, and a Limit stands where the marks would
+-- give more.
 abbrev pub AtLimit : Type 0
 AtLimit = (p : Problem) (l : Limits) (m : Machine) (actor id made n : ℕ) (marks : List Mark)
     → (ExpandIsLegal p l m actor id marks → m.made + length marks ≤ l.nodes)
@@ -616,7 +704,8 @@ Dropped = (p : Problem) (l : Limits) (m : Machine) (id : ℕ) → DropIsLegal p 
 
 -- A published plan is possible.
 abbrev pub Published : Type 0
-Published = (p : Problem) (l : Limits) (m : Machine) (actor id : ℕ) (plan : Plan) → PublishIsLegal p l m actor id plan
+Published = (p : Problem) (l : Limits) (m : Machine) (actor id : ℕ) (plan : Plan)
+    → PublishIsLegal p l m actor id plan
     → Possible p l m.now m.commits plan
 
 -- An Exhaust stands where no node is left and no plan is possible.
@@ -626,7 +715,8 @@ Exhausted = (p : Problem) (l : Limits) (m : Machine) → ExhaustIsLegal p l m
 
 -- An act that is due starts at the clock plus the lead, or before.
 abbrev pub DueSoon : Type 0
-DueSoon = (p : Problem) (l : Limits) (m : Machine) (act : Timed) → IsDue p l m act → act.start ≤ m.now + l.lead
+DueSoon = (p : Problem) (l : Limits) (m : Machine) (act : Timed) → IsDue p l m act
+    → act.start ≤ m.now + l.lead
 
 -- The events of a turn end before the next Tick or Halt.
 abbrev pub TurnEvents : Type 0
@@ -649,7 +739,8 @@ Rests = (rests_in (Tick 0 0 ∷ Tick 0 0 ∷ []) ≡ 2)
 abbrev pub busy : List Event → ℕ → List Event → Bool
 busy before actor events = is_busy_turn (limits 2 9) 2 before actor 0 events
 
--- The dispatcher makes no deed, nobody is behind the workers, and a worker that took nothing takes an open node.
+-- The dispatcher makes no deed, nobody is behind the workers, and a worker that took nothing takes
+-- an open node.
 abbrev pub BusyTakes : Type 0
 BusyTakes = (busy [] 0 [] ≡ true)
     × (busy [] 0 (Take 0 0 ∷ []) ≡ false)
@@ -694,7 +785,10 @@ NotMetByItself = ¬ (Passes (asking (Add 0) []) (act 0 0 0 ∷ []) 0)
 
 -- A goal that is reached at the end tick is reached.
 abbrev pub ReachedAtEnd : Type 0
-ReachedAtEnd = Valid (record sharing { goal = Lit 0 true ∷ [] }) (limits 1 0) (plan (act 0 0 0 ∷ []) 0)
+ReachedAtEnd = Valid (record sharing {
+  goal = Lit 0 true
+      ∷ [];
+}) (limits 1 0) (plan (act 0 0 0 ∷ []) 0)
 
 -- The empty plan, whose end is 0, where nothing happens.
 abbrev pub EmptyPlan : Type 0
@@ -702,7 +796,8 @@ EmptyPlan = Valid (guarded []) (limits 0 0) (plan [] 0)
 
 -- A condition that an earlier group gives, and timed items one after the other.
 abbrev pub SoundByBefore : Type 0
-SoundByBefore = Sound sharing (opens (Start 0) ∷ opens (Start 1) ∷ []) × Sound mixed (opens (TimedAt 0) ∷ opens (TimedAt 1) ∷ [])
+SoundByBefore = Sound sharing (opens (Start 0) ∷ opens (Start 1) ∷ [])
+    × Sound mixed (opens (TimedAt 0) ∷ opens (TimedAt 1) ∷ [])
 
 -- An end closes the act that runs.
 abbrev pub TwoActs : Type 0
@@ -719,12 +814,14 @@ LeastOfOne = IsLeast (timings []) (limits 2 9) 4 [] (opens (Start 1) ∷ []) (sc
 
 -- A live word is sound and has a schedule.
 abbrev pub LiveParts : Type 0
-LiveParts = (p : Problem) (l : Limits) (now : ℕ) (commits : List Timed) (w : List Mark) → Live p l now commits w
+LiveParts = (p : Problem) (l : Limits) (now : ℕ) (commits : List Timed) (w : List Mark)
+    → Live p l now commits w
     → Sound p w × ((x : Schedule) × IsSchedule p l now commits w x)
 
 -- The best of two nodes is the one of less rank, though its id is greater.
 abbrev pub BestOfTwo : Type 0
-BestOfTwo = IsBest (guarded (Lit 0 true ∷ [])) (node 3 [] None ∷ node 4 (opens (Start 0) ∷ []) (Some 1) ∷ []) (node 4 (opens (Start 0) ∷ []) (Some 1))
+BestOfTwo = IsBest (guarded (Lit 0 true ∷ [])) (node 3 [] None
+    ∷ node 4 (opens (Start 0) ∷ []) (Some 1) ∷ []) (node 4 (opens (Start 0) ∷ []) (Some 1))
 
 -- The open nodes are those that nobody took.
 abbrev pub OpenNodes : Type 0
@@ -732,12 +829,15 @@ OpenNodes = open_nodes (node 4 [] None ∷ node 6 [] (Some 2) ∷ []) ≡ node 4
 
 -- A mark is among the live marks just where it makes a live word.
 abbrev pub MarksAreLive : Type 0
-MarksAreLive = (p : Problem) (l : Limits) (m : Machine) (w marks : List Mark) → AreLiveMarks p l m w marks
-    → (a : Mark) → (IsIn a marks → Live p l m.now m.commits (w ++ a ∷ [])) × (Live p l m.now m.commits (w ++ a ∷ []) → IsIn a marks)
+MarksAreLive = (p : Problem) (l : Limits) (m : Machine) (w marks : List Mark)
+    → AreLiveMarks p l m w marks
+    → (a : Mark) → (IsIn a marks → Live p l m.now m.commits (w ++ a ∷ []))
+    × (Live p l m.now m.commits (w ++ a ∷ []) → IsIn a marks)
 
 -- An Expand of a node is by the live marks of its word, which is no possible plan's word.
 abbrev pub Expanded : Type 0
-Expanded = (p : Problem) (l : Limits) (m : Machine) (actor id : ℕ) (marks : List Mark) → ExpandIsLegal p l m actor id marks
+Expanded = (p : Problem) (l : Limits) (m : Machine) (actor id : ℕ) (marks : List Mark)
+    → ExpandIsLegal p l m actor id marks
     → (n : Node) × (n.id ≡ id) × AreLiveMarks p l m n.word marks
     × ((plan : Plan) → Possible p l m.now m.commits plan → ¬ (spell p plan ≡ n.word))
 
@@ -748,6 +848,7 @@ Taken = (p : Problem) (l : Limits) (m : Machine) (actor id : ℕ) → TakeIsLega
 
 -- A published plan has its node's word, and the times of its least schedule.
 abbrev pub PublishedLeast : Type 0
-PublishedLeast = (p : Problem) (l : Limits) (m : Machine) (actor id : ℕ) (plan : Plan) → PublishIsLegal p l m actor id plan
+PublishedLeast = (p : Problem) (l : Limits) (m : Machine) (actor id : ℕ) (plan : Plan)
+    → PublishIsLegal p l m actor id plan
     → (n : Node) × (n.id ≡ id) × (spell p plan ≡ n.word)
     × ((x : Schedule) × IsLeast p l m.now m.commits n.word x × (plan ≡ plan_of p n.word x))

@@ -24,7 +24,11 @@ use Rattle.tp_spec.specs.WellFormed.{Ground}
 
 -- fact 0 alone is true, and fluents 0 and 1 have these values
 abbrev pub sample : Option ℤ → Option ℤ → State
-sample a b = record { fact = λ f. f == 0; fluent = λ x. option_and_then (λ v. v) (slice_get (a ∷ b ∷ []) x) }
+sample a b = record {
+  fact = λ f. f == 0;
+  fluent = λ x. option_and_then (λ v. v) (slice_get (a ∷ b
+      ∷ []) x);
+}
 
 abbrev pub two : Expr
 two = Number (pos 2)
@@ -64,7 +68,8 @@ lasting least most invariants opening closing = record {
   end_effects = closing;
 }
 
--- action 0 lasts, with a condition and an effect at each of its ends, action 1 is instant, and timed items are at 3 and 5
+-- action 0 lasts, with a condition and an effect at each of its ends, action 1 is instant, and
+-- timed items are at 3 and 5
 abbrev pub mixed : Ground
 mixed = problem (
     record {
@@ -76,18 +81,26 @@ mixed = problem (
       start_effects = Add 13 ∷ [];
       end_effects = Add 14 ∷ [];
     } ∷ instant (Lit 15 true ∷ []) (Add 16 ∷ []) ∷ []
-    ) (record { tick = 3; adds = 17 ∷ []; deletes = 18 ∷ [] } ∷ record { tick = 5; adds = 19 ∷ []; deletes = [] } ∷ []) [] [] []
+    ) (record { tick = 3; adds = 17 ∷ []; deletes = 18 ∷ [] } ∷ record {
+      tick = 5;
+      adds = 19
+          ∷ [];
+      deletes = [];
+    } ∷ []) [] [] []
 
--- action 0 adds fact 0, action 1 asks it, action 2 asks that it does not hold, action 3 deletes it, action 4 does nothing
+-- action 0 adds fact 0, action 1 asks it, action 2 asks that it does not hold, action 3 deletes it,
+-- action 4 does nothing
 abbrev pub sharing : Ground
 sharing = problem (
-    instant [] (Add 0 ∷ []) ∷ instant (Lit 0 true ∷ []) [] ∷ instant (Lit 0 false ∷ []) [] ∷ instant [] (Delete 0 ∷ [])
+    instant [] (Add 0 ∷ []) ∷ instant (Lit 0 true ∷ []) [] ∷ instant (Lit 0 false ∷ []) []
+    ∷ instant [] (Delete 0 ∷ [])
     ∷ instant [] [] ∷ []
     ) [] [] [] []
 
 -- action 0 raises fluent 0 by 2, where fact 0 holds
 abbrev pub raising : List (Option ℤ) → Ground
-raising values = problem (instant (Lit 0 true ∷ []) (Change Increase 0 two ∷ []) ∷ []) [] (0 ∷ []) values []
+raising values = problem (instant (Lit 0 true ∷ []) (Change Increase 0 two ∷ []) ∷ []) [] (0
+    ∷ []) values []
 
 abbrev pub act : ℕ → ℕ → ℕ → Timed
 act action start length = record { action = action; start = start; length = length }
@@ -105,17 +118,23 @@ opens i = record { fresh = true; item = i }
 abbrev pub joins : Item → Mark
 joins i = record { fresh = false; item = i }
 
--- Action 0 lasts 2 ticks and needs fact 0 while it runs, which its start gives; action 1 deletes it. Action 2 is as 0, but
--- gives nothing. Actions 3 and 4 do nothing, and action 4 asks fact 1.
+-- Action 0 lasts 2 ticks and needs fact 0 while it runs, which its start gives; action 1 deletes
+-- it. Action 2 is as 0, but gives nothing. Actions 3 and 4 do nothing, and action 4 asks fact 1.
 abbrev pub guarded : List Cond → Ground
 guarded goal = problem (
-    lasting 2 2 (Lit 0 true ∷ []) (Add 0 ∷ []) [] ∷ instant [] (Delete 0 ∷ []) ∷ lasting 2 2 (Lit 0 true ∷ []) [] []
+    lasting 2 2 (Lit 0 true ∷ []) (Add 0 ∷ []) [] ∷ instant [] (Delete 0 ∷ [])
+    ∷ lasting 2 2 (Lit 0 true ∷ []) [] []
     ∷ instant [] [] ∷ instant (Lit 1 true ∷ []) [] ∷ []
     ) [] [] [] goal
 
 -- how far a word was read: fact 0 alone is true, action 0 may run, and so many timed items came
 abbrev pub reading : List Item → Bool → ℕ → Progress
-reading group running timed = record { before = sample None None; group = group; timed = timed; running = λ a. a == 0 && running }
+reading group running timed = record {
+  before = sample None None;
+  group = group;
+  timed = timed;
+  running = λ a. a == 0 && running;
+}
 
 -- action 0 lasts 2 or 3 ticks, action 1 is instant, and these are the timed items
 abbrev pub timings : List TimedItem → Ground

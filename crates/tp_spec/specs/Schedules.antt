@@ -64,7 +64,8 @@ pub record IsSchedule (p : Problem) (l : Limits) (now : ℕ) (commits : List Tim
   pub late : (c : Timed) (g : ℕ) → IsIn c (awaited (acts_of p w) commits) → g < groups w → x.tick g ≤ c.start
   pub few : length (acts_of p w) + length (awaited (acts_of p w) commits) ≤ l.actions
 
--- a sound word that has a schedule
+-- A sound word that has a schedule.
+-- Dechter, Meiri and Pearl 1991 (a simple temporal problem that is consistent).
 pub record Live (p : Problem) (l : Limits) (now : ℕ) (commits : List Timed) (w : List Mark) : Type 0 where
   pub sound : Sound p w
   pub schedule : Schedule
@@ -75,7 +76,9 @@ pub record IsNoLater (p : Problem) (w : List Mark) (x y : Schedule) : Type 0 whe
   pub ticks : (g : ℕ) → g < groups w → x.tick g ≤ y.tick g
   pub ends : (a : Act) → IsIn a (acts_of p w) → a.closes ≡ None → x.end a.action ≤ y.end a.action
 
--- the schedules that are greatest, and least, in every component; a live word has both
+-- The schedules that are greatest, and least, in every component; a live word has both.
+-- Dechter, Meiri and Pearl 1991 (the latest and the earliest times). The definition compares with all schedules, the
+-- code relaxes bounds.
 pub record IsGreatest (p : Problem) (l : Limits) (now : ℕ) (commits : List Timed) (w : List Mark) (x : Schedule) : Type 0 where
   pub is : IsSchedule p l now commits w x
   pub last : (y : Schedule) → IsSchedule p l now commits w y → IsNoLater p w y x
@@ -94,5 +97,6 @@ last_tick x zero = 0
 last_tick x (suc g) = x.tick g
 
 -- The plan of a word without a running act. Acts come in order of their starts, so in a plan's order.
+-- This project's own.
 abbrev pub plan_of : Problem → List Mark → Schedule → Plan
 plan_of p w x = record { acts = map (timed_act x) (acts_of p w); end = last_tick x (groups w) }
