@@ -68,6 +68,11 @@ abbrev pub UndefinedCompares : Type 0
 UndefinedCompares = (op : Op) (e : Expr) → holds (sample None None) (Compare op (Fluent 0) e)
     ≡ false
 
+-- A comparison has its left side first.
+abbrev pub ComparedSides : Type 0
+ComparedSides = (holds (sample (Some (pos 5)) None) (Compare More (Fluent 0) two) ≡ true)
+    × (holds (sample (Some (pos 5)) None) (Compare Less (Fluent 0) two) ≡ false)
+
 -- The facts of `init` are true at the start, and a fluent has its value there, or none.
 abbrev pub StartStates : Type 0
 StartStates = (map (initial (raising (Some (pos 5) ∷ None ∷ []))).fact (0 ∷ 1 ∷ [])
@@ -198,6 +203,13 @@ Interferences = (map (interfere sharing (Start 0)) (Start 1 ∷ Start 2 ∷ Star
     ≡ true ∷ true ∷ true ∷ false ∷ [])
     × (interfere sharing (Start 1) (Start 2) ≡ false)
 
+-- A sum and a difference read what either part reads.
+abbrev pub Reads : Type 0
+Reads = (map (λ b. reads_at 0 (Expr-F.Sum b true)) (true ∷ false ∷ []) ≡ true ∷ true ∷ [])
+    × (map (λ b. reads_at 0 (Expr-F.Sum b false)) (true ∷ false ∷ []) ≡ true ∷ false ∷ [])
+    × (map (λ b. reads_at 0 (Expr-F.Difference b true)) (true ∷ false ∷ []) ≡ true ∷ true ∷ [])
+    × (map (λ b. reads_at 0 (Expr-F.Difference b false)) (true ∷ false ∷ []) ≡ true ∷ false ∷ [])
+
 -- A length is 0 of an instant action, from the least to the most of one that lasts, and none of
 -- what is no action.
 abbrev pub Lengths : Type 0
@@ -269,6 +281,18 @@ KeptOnWay = ¬ (Passes (guarded []) (act 0 0 2 ∷ act 1 1 0 ∷ []) 1)
 abbrev pub KeptToEnd : Type 0
 KeptToEnd = Passes (guarded []) (act 0 0 2 ∷ act 1 2 0 ∷ []) 2
 
+-- an action that asks fact 0 and has this effect, where fact 0 holds at the start or not
+abbrev pub asking : Effect → List ℕ → Problem
+asking effect init = problem (instant (Lit 0 true ∷ []) (effect ∷ []) ∷ []) [] init [] []
+
+-- An item may take away what it asks.
+abbrev pub MetBefore : Type 0
+MetBefore = Passes (asking (Delete 0) (0 ∷ [])) (act 0 0 0 ∷ []) 0
+
+-- An item does not meet its own condition.
+abbrev pub NotMetByItself : Type 0
+NotMetByItself = ¬ (Passes (asking (Add 0) []) (act 0 0 0 ∷ []) 0)
+
 -- Two acts of one action that touch, as many acts as allowed, and an end at the horizon: valid.
 abbrev pub AllValid : Type 0
 AllValid = Valid (guarded (Lit 0 true ∷ [])) (limits 2 4) (plan (act 0 0 2 ∷ act 0 2 2 ∷ []) 4)
@@ -312,6 +336,17 @@ NotMetAtEnd = ¬ (Valid (guarded []) (limits 2 4) (plan (act 0 0 2 ∷ act 4 2 0
 -- Not valid: a goal that is not reached.
 abbrev pub NotReached : Type 0
 NotReached = ¬ (Valid (guarded (Lit 1 true ∷ [])) (limits 2 4) (plan [] 0))
+
+-- A goal that is reached at the end tick is reached.
+abbrev pub ReachedAtEnd : Type 0
+ReachedAtEnd = Valid (record sharing {
+  goal = Lit 0 true
+      ∷ [];
+}) (limits 1 0) (plan (act 0 0 0 ∷ []) 0)
+
+-- The empty plan, whose end is 0, where nothing happens.
+abbrev pub EmptyPlan : Type 0
+EmptyPlan = Valid (guarded []) (limits 0 0) (plan [] 0)
 
 -- Acts are the same where action, start and length are.
 abbrev pub SameActs : Type 0
@@ -437,6 +472,16 @@ WordParts = (groups long_word ≡ 2)
     × (timed_of long_word ≡ 1 ∷ [])
     × (acts_of mixed long_word ≡ word_act 0 0 (Some 1) ∷ word_act 0 1 None ∷ word_act 1 1 (Some 1)
     ∷ [])
+
+-- A condition that an earlier group gives, and timed items one after the other.
+abbrev pub SoundByBefore : Type 0
+SoundByBefore = Sound sharing (opens (Start 0) ∷ opens (Start 1) ∷ [])
+    × Sound mixed (opens (TimedAt 0) ∷ opens (TimedAt 1) ∷ [])
+
+-- An end closes the act that runs.
+abbrev pub TwoActs : Type 0
+TwoActs = acts_of mixed (opens (Start 0) ∷ opens (End 0) ∷ opens (Start 0) ∷ opens (End 0) ∷ [])
+    ≡ word_act 0 0 (Some 1) ∷ word_act 0 2 (Some 3) ∷ []
 
 -- An act ends at the tick of the group that closes it, or at an end of its own.
 abbrev pub Finishes : Type 0
@@ -565,6 +610,20 @@ LeastIsFirst = (p : Problem) (l : Limits) (now : ℕ) (commits : List Timed) (w 
     → ((g : ℕ) → g < groups w → x.tick g ≤ y.tick g)
     × ((a : Act) → IsIn a (acts_of p w) → a.closes ≡ None → x.end a.action ≤ y.end a.action)
 
+-- The greatest schedule of one start stands at the horizon.
+abbrev pub GreatestOfOne : Type 0
+GreatestOfOne = IsGreatest (timings []) (limits 2 9) 4 [] (opens (Start 1) ∷ []) (schedule 9 9 0)
+
+-- The least one stands at the clock.
+abbrev pub LeastOfOne : Type 0
+LeastOfOne = IsLeast (timings []) (limits 2 9) 4 [] (opens (Start 1) ∷ []) (schedule 4 4 0)
+
+-- A live word is sound and has a schedule.
+abbrev pub LiveParts : Type 0
+LiveParts = (p : Problem) (l : Limits) (now : ℕ) (commits : List Timed) (w : List Mark)
+    → Live p l now commits w
+    → Sound p w × ((x : Schedule) × IsSchedule p l now commits w x)
+
 -- The candidate is the first start behind as many of its action as are committed.
 abbrev pub Candidates : Type 0
 Candidates = (candidate [] [] (acts_of mixed long_word) ≡ Some (word_act 0 0 (Some 1)))
@@ -595,6 +654,15 @@ BestNodes = map (no_worse (guarded (Lit 0 true ∷ [])) (node 3 [] None))
     (node 3 [] None ∷ node 2 [] None ∷ node 4 [] None ∷ node 4 (opens (Start 0) ∷ []) None
     ∷ node 2 (opens (Start 1) ∷ []) None ∷ [])
     ≡ true ∷ false ∷ true ∷ false ∷ false ∷ []
+
+-- The best of two nodes is the one of less rank, though its id is greater.
+abbrev pub BestOfTwo : Type 0
+BestOfTwo = IsBest (guarded (Lit 0 true ∷ [])) (node 3 [] None
+    ∷ node 4 (opens (Start 0) ∷ []) (Some 1) ∷ []) (node 4 (opens (Start 0) ∷ []) (Some 1))
+
+-- The open nodes are those that nobody took.
+abbrev pub OpenNodes : Type 0
+OpenNodes = open_nodes (node 4 [] None ∷ node 6 [] (Some 2) ∷ []) ≡ node 4 [] None ∷ []
 
 -- Marks that join come before marks that open, each kind in item order.
 abbrev pub MarkOrder : Type 0
@@ -718,6 +786,32 @@ abbrev pub DueSoon : Type 0
 DueSoon = (p : Problem) (l : Limits) (m : Machine) (act : Timed) → IsDue p l m act
     → act.start ≤ m.now + l.lead
 
+-- A mark is among the live marks just where it makes a live word.
+abbrev pub MarksAreLive : Type 0
+MarksAreLive = (p : Problem) (l : Limits) (m : Machine) (w marks : List Mark)
+    → AreLiveMarks p l m w marks
+    → (a : Mark) → (IsIn a marks → Live p l m.now m.commits (w ++ a ∷ []))
+    × (Live p l m.now m.commits (w ++ a ∷ []) → IsIn a marks)
+
+-- An Expand of a node is by the live marks of its word, which is no possible plan's word.
+abbrev pub Expanded : Type 0
+Expanded = (p : Problem) (l : Limits) (m : Machine) (actor id : ℕ) (marks : List Mark)
+    → ExpandIsLegal p l m actor id marks
+    → (n : Node) × (n.id ≡ id) × AreLiveMarks p l m n.word marks
+    × ((plan : Plan) → Possible p l m.now m.commits plan → ¬ (spell p plan ≡ n.word))
+
+-- The node that is taken is the best of the open ones, and live.
+abbrev pub Taken : Type 0
+Taken = (p : Problem) (l : Limits) (m : Machine) (actor id : ℕ) → TakeIsLegal p l m actor id
+    → (n : Node) × (n.id ≡ id) × IsBest p (open_nodes m.nodes) n × Live p l m.now m.commits n.word
+
+-- A published plan has its node's word, and the times of its least schedule.
+abbrev pub PublishedLeast : Type 0
+PublishedLeast = (p : Problem) (l : Limits) (m : Machine) (actor id : ℕ) (plan : Plan)
+    → PublishIsLegal p l m actor id plan
+    → (n : Node) × (n.id ≡ id) × (spell p plan ≡ n.word)
+    × ((x : Schedule) × IsLeast p l m.now m.commits n.word x × (plan ≡ plan_of p n.word x))
+
 -- The events of a turn end before the next Tick or Halt.
 abbrev pub TurnEvents : Type 0
 TurnEvents = (turn_events (Drop 4 ∷ Take 2 4 ∷ Tick 1 3 ∷ Drop 5 ∷ []) ≡ Drop 4 ∷ Take 2 4 ∷ [])
@@ -758,97 +852,3 @@ BusyMerges = (busy (Tick 1 0 ∷ Take 1 0 ∷ []) 1 (Expand 1 0 [] ∷ []) ≡ t
     × (busy (Tick 1 0 ∷ Take 1 0 ∷ []) 1 (Expand 1 3 [] ∷ []) ≡ false)
     × (busy (Tick 1 0 ∷ Take 1 0 ∷ []) 1 (Drop 0 ∷ []) ≡ true)
     × (busy (Tick 1 0 ∷ Take 1 0 ∷ []) 1 (Exhaust ∷ []) ≡ true)
-
--- A comparison has its left side first.
-abbrev pub ComparedSides : Type 0
-ComparedSides = (holds (sample (Some (pos 5)) None) (Compare More (Fluent 0) two) ≡ true)
-    × (holds (sample (Some (pos 5)) None) (Compare Less (Fluent 0) two) ≡ false)
-
--- A sum and a difference read what either part reads.
-abbrev pub Reads : Type 0
-Reads = (map (λ b. reads_at 0 (Expr-F.Sum b true)) (true ∷ false ∷ []) ≡ true ∷ true ∷ [])
-    × (map (λ b. reads_at 0 (Expr-F.Sum b false)) (true ∷ false ∷ []) ≡ true ∷ false ∷ [])
-    × (map (λ b. reads_at 0 (Expr-F.Difference b true)) (true ∷ false ∷ []) ≡ true ∷ true ∷ [])
-    × (map (λ b. reads_at 0 (Expr-F.Difference b false)) (true ∷ false ∷ []) ≡ true ∷ false ∷ [])
-
--- an action that asks fact 0 and has this effect, where fact 0 holds at the start or not
-abbrev pub asking : Effect → List ℕ → Problem
-asking effect init = problem (instant (Lit 0 true ∷ []) (effect ∷ []) ∷ []) [] init [] []
-
--- An item may take away what it asks.
-abbrev pub MetBefore : Type 0
-MetBefore = Passes (asking (Delete 0) (0 ∷ [])) (act 0 0 0 ∷ []) 0
-
--- An item does not meet its own condition.
-abbrev pub NotMetByItself : Type 0
-NotMetByItself = ¬ (Passes (asking (Add 0) []) (act 0 0 0 ∷ []) 0)
-
--- A goal that is reached at the end tick is reached.
-abbrev pub ReachedAtEnd : Type 0
-ReachedAtEnd = Valid (record sharing {
-  goal = Lit 0 true
-      ∷ [];
-}) (limits 1 0) (plan (act 0 0 0 ∷ []) 0)
-
--- The empty plan, whose end is 0, where nothing happens.
-abbrev pub EmptyPlan : Type 0
-EmptyPlan = Valid (guarded []) (limits 0 0) (plan [] 0)
-
--- A condition that an earlier group gives, and timed items one after the other.
-abbrev pub SoundByBefore : Type 0
-SoundByBefore = Sound sharing (opens (Start 0) ∷ opens (Start 1) ∷ [])
-    × Sound mixed (opens (TimedAt 0) ∷ opens (TimedAt 1) ∷ [])
-
--- An end closes the act that runs.
-abbrev pub TwoActs : Type 0
-TwoActs = acts_of mixed (opens (Start 0) ∷ opens (End 0) ∷ opens (Start 0) ∷ opens (End 0) ∷ [])
-    ≡ word_act 0 0 (Some 1) ∷ word_act 0 2 (Some 3) ∷ []
-
--- The greatest schedule of one start stands at the horizon.
-abbrev pub GreatestOfOne : Type 0
-GreatestOfOne = IsGreatest (timings []) (limits 2 9) 4 [] (opens (Start 1) ∷ []) (schedule 9 9 0)
-
--- The least one stands at the clock.
-abbrev pub LeastOfOne : Type 0
-LeastOfOne = IsLeast (timings []) (limits 2 9) 4 [] (opens (Start 1) ∷ []) (schedule 4 4 0)
-
--- A live word is sound and has a schedule.
-abbrev pub LiveParts : Type 0
-LiveParts = (p : Problem) (l : Limits) (now : ℕ) (commits : List Timed) (w : List Mark)
-    → Live p l now commits w
-    → Sound p w × ((x : Schedule) × IsSchedule p l now commits w x)
-
--- The best of two nodes is the one of less rank, though its id is greater.
-abbrev pub BestOfTwo : Type 0
-BestOfTwo = IsBest (guarded (Lit 0 true ∷ [])) (node 3 [] None
-    ∷ node 4 (opens (Start 0) ∷ []) (Some 1) ∷ []) (node 4 (opens (Start 0) ∷ []) (Some 1))
-
--- The open nodes are those that nobody took.
-abbrev pub OpenNodes : Type 0
-OpenNodes = open_nodes (node 4 [] None ∷ node 6 [] (Some 2) ∷ []) ≡ node 4 [] None ∷ []
-
--- A mark is among the live marks just where it makes a live word.
-abbrev pub MarksAreLive : Type 0
-MarksAreLive = (p : Problem) (l : Limits) (m : Machine) (w marks : List Mark)
-    → AreLiveMarks p l m w marks
-    → (a : Mark) → (IsIn a marks → Live p l m.now m.commits (w ++ a ∷ []))
-    × (Live p l m.now m.commits (w ++ a ∷ []) → IsIn a marks)
-
--- An Expand of a node is by the live marks of its word, which is no possible plan's word.
-abbrev pub Expanded : Type 0
-Expanded = (p : Problem) (l : Limits) (m : Machine) (actor id : ℕ) (marks : List Mark)
-    → ExpandIsLegal p l m actor id marks
-    → (n : Node) × (n.id ≡ id) × AreLiveMarks p l m n.word marks
-    × ((plan : Plan) → Possible p l m.now m.commits plan → ¬ (spell p plan ≡ n.word))
-
--- The node that is taken is the best of the open ones, and live.
-abbrev pub Taken : Type 0
-Taken = (p : Problem) (l : Limits) (m : Machine) (actor id : ℕ) → TakeIsLegal p l m actor id
-    → (n : Node) × (n.id ≡ id) × IsBest p (open_nodes m.nodes) n × Live p l m.now m.commits n.word
-
--- A published plan has its node's word, and the times of its least schedule.
-abbrev pub PublishedLeast : Type 0
-PublishedLeast = (p : Problem) (l : Limits) (m : Machine) (actor id : ℕ) (plan : Plan)
-    → PublishIsLegal p l m actor id plan
-    → (n : Node) × (n.id ≡ id) × (spell p plan ≡ n.word)
-    × ((x : Schedule) × IsLeast p l m.now m.commits n.word x × (plan ≡ plan_of p n.word x))

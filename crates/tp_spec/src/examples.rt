@@ -1,10 +1,15 @@
-ghost use Rattle.tp_spec.specs.Pinned.{Comparisons, Operations, Values, Literals, UndefinedCompares, StartStates, ItemOrder, Parts, Undefined, UndefinedRight, Own, Changes, Facts, Fits, StatesAfter, LiteralsDisturbed, ComparisonsDisturbed, FactsCollide, ChangesCollide, Interferences};
-ghost use Rattle.tp_spec.specs.Pinned.{Lengths, Happenings, Running, ActOrder, Courses, Apart, Met, KeptByStart, KeptByOther, KeptByNone, KeptOnWay, KeptToEnd, AllValid, NotFew, NotWithin, NotInOrder, NotOnce, NotInLength, NotInTurn, NotClosing, NotEnded, NotMetAtEnd, NotReached, SameActs, AtClock, NotAtClock, NotLater, NotCommitted};
-ghost use Rattle.tp_spec.specs.Pinned.{Spelled, RunsAfter, TimedInTurn, EndsInTurn, StartsInTurn, Joins, Closed, NotClosed, Follows, IsSoundWord, NotSoundWord, WordParts};
-ghost use Rattle.tp_spec.specs.Pinned.{Finishes, Awaited, Plans, Punctual, Shortest, Longest, Owing, NotRising, NotWithinHorizon, NotTimed, NotBeforeNext, TooShort, TooLong, NotEndingWithin, NotOpenLate, NotAtClockYet, SecondTooEarly, WrongCommitment, WrongLength, NotOwing, TooMany, GreatestIsLast, LeastIsFirst};
-ghost use Rattle.tp_spec.specs.Pinned.{Candidates, Ranks, BestNodes, MarkOrder};
-ghost use Rattle.tp_spec.specs.Pinned.{FirstState, TickStep, SettlingSteps, TakeStep, ExpandStep, Outcomes, Readings, NoneAfterOutcome, OfTakers, AtLimit, Dropped, Published, Exhausted, DueSoon, TurnEvents, LastTakes, Rests, BusyTakes, BusyMerges};
-ghost use Rattle.tp_spec.specs.Pinned.{ComparedSides, Reads, MetBefore, NotMetByItself, ReachedAtEnd, EmptyPlan, SoundByBefore, TwoActs, GreatestOfOne, LeastOfOne, LiveParts, BestOfTwo, OpenNodes, MarksAreLive, Expanded, Taken, PublishedLeast};
+ghost use Rattle.tp_spec.specs.Pinned.{Comparisons, Operations, Values, Literals, UndefinedCompares, StartStates, ComparedSides};
+ghost use Rattle.tp_spec.specs.Pinned.{ItemOrder, Parts, Undefined, UndefinedRight, Own, Changes, Facts, Fits, StatesAfter};
+ghost use Rattle.tp_spec.specs.Pinned.{LiteralsDisturbed, ComparisonsDisturbed, FactsCollide, ChangesCollide, Interferences, Reads};
+ghost use Rattle.tp_spec.specs.Pinned.{Lengths, Happenings, Running, ActOrder, Courses, Apart, Met, KeptByStart, KeptByOther, KeptByNone, KeptOnWay, KeptToEnd, MetBefore, NotMetByItself};
+ghost use Rattle.tp_spec.specs.Pinned.{AllValid, NotFew, NotWithin, NotInOrder, NotOnce, NotInLength, NotInTurn, NotClosing, NotEnded, NotMetAtEnd, NotReached, ReachedAtEnd, EmptyPlan, SameActs, AtClock, NotAtClock, NotLater, NotCommitted};
+ghost use Rattle.tp_spec.specs.Pinned.{Spelled, RunsAfter, TimedInTurn, EndsInTurn, StartsInTurn, Joins, Closed, NotClosed, Follows, IsSoundWord, NotSoundWord, WordParts, SoundByBefore, TwoActs};
+ghost use Rattle.tp_spec.specs.Pinned.{Finishes, Awaited, Plans, Punctual, Shortest, Longest, Owing, GreatestIsLast, LeastIsFirst, GreatestOfOne, LeastOfOne, LiveParts};
+ghost use Rattle.tp_spec.specs.Pinned.{NotRising, NotWithinHorizon, NotTimed, NotBeforeNext, TooShort, TooLong, NotEndingWithin, NotOpenLate, NotAtClockYet, SecondTooEarly, WrongCommitment, WrongLength, NotOwing, TooMany};
+ghost use Rattle.tp_spec.specs.Pinned.{Candidates, Ranks, BestNodes, MarkOrder, BestOfTwo, OpenNodes};
+ghost use Rattle.tp_spec.specs.Pinned.{FirstState, TickStep, SettlingSteps, TakeStep, ExpandStep, Outcomes, Readings};
+ghost use Rattle.tp_spec.specs.Pinned.{NoneAfterOutcome, OfTakers, AtLimit, Dropped, Published, Exhausted, DueSoon, MarksAreLive, Expanded, Taken, PublishedLeast};
+ghost use Rattle.tp_spec.specs.Pinned.{TurnEvents, LastTakes, Rests, BusyTakes, BusyMerges};
 
 /// States, values and conditions.
 pub fn states()
