@@ -1,5 +1,5 @@
 -- What is asked of each number below one or two, and of each member of a short list.
-use Rattle.std.proofs.Common.{◌≡◌, ℕ, zero, suc, ◌<◌, arith, subst, ◌⊎◌, inl, inr, List, [], ◌∷◌, Option, Some, None}
+use Rattle.std.proofs.Common.{◌≡◌, ℕ, zero, suc, ◌<◌, arith, subst, ◌⊎◌, inl, inr, List, [], ◌∷◌, ap, Option, Some, None}
 use Rattle.tp_spec.specs.Lists.{IsIn}
 
 pub below_one : (P : ℕ → Type 0) → P 0 → (g : ℕ) → g < 1 → P g
@@ -23,3 +23,7 @@ two_in P x y h k a i = elim i [ inl e ↦ subst P e h | inr n ↦ one_in P y k a
 
 pub some_none : {A : Type 0} (x : A) → Some x ≡ None → ⊥
 some_none x q = cc
+
+-- no list begins with 1 and with 2
+pub second_first : (rest : List ℕ) → ◌≡◌ {A = List ℕ} (1 ∷ 2 ∷ []) (2 ∷ rest) → ⊥
+second_first rest q = let e : ◌≡◌ {A = ℕ} 1 2 = ap (λ xs. elim xs [ [] ↦ 0 | x ∷ ys ↦ x ]) q in omega (arith, e)

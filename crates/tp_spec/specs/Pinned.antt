@@ -1,5 +1,5 @@
 -- What the definitions say of small cases, both where a thing holds and where it does not.
-use Rattle.std.specs.Prelude.{◌≡◌, ℕ, ◌+◌, ◌^◌, ◌-◌, ◌<◌, ◌≤◌, Bool, true, false, not, List, [], ◌∷◌, ◌++◌, length, map, Option, Some, None, ℤ, pos, negsuc}
+use Rattle.std.specs.Prelude.{◌≡◌, ℕ, ◌+◌, ◌^◌, ◌-◌, ◌<◌, ◌≤◌, ◌==◌, nat_lt, Bool, true, false, not, List, [], ◌∷◌, ◌++◌, length, map, Option, Some, None, ℤ, pos, negsuc}
 use Rattle.std.specs.Option.{option_map}
 use Rattle.tp_spec.specs.declared.event.Cause.TheVariants.{Script}
 use Rattle.tp_spec.specs.declared.event.Event.{Event}
@@ -26,11 +26,11 @@ use Rattle.tp_spec.specs.States.{State, initial, value, value_at, compares, hold
 use Rattle.tp_spec.specs.Items.{all_items, item_before, is_durative, effects, conditions, invariants, is_defined, own, changed, next, fits, has_after}
 use Rattle.tp_spec.specs.Interference.{reads_at, disturbs, collides, interfere}
 use Rattle.tp_spec.specs.Courses.{in_range, happening, runs_at, act_before, state_before, state_after, Passes, Valid, has_act, Possible}
-use Rattle.tp_spec.specs.Lists.{IsIn, BeginsWith}
+use Rattle.tp_spec.specs.Lists.{IsIn, BeginsWith, each_pair, each_next}
 use Rattle.tp_spec.specs.Words.{spell, runs_after, in_turn, may_join, closes, may_follow, at_start, progress, Sound, groups, Act, acts_of, timed_of}
 use Rattle.tp_spec.specs.Schedules.{Schedule, finish, awaited, IsSchedule, Live, IsGreatest, IsLeast, timed_act, plan_of}
-use Rattle.tp_spec.specs.Machine.{candidate, unmet_goals, no_worse, mark_before, open_nodes, IsBest, AreLiveMarks, TakeIsLegal, Machine, Node, first, step, readings, ticks, Legal, IsDue, ExpandIsLegal, PublishIsLegal, LimitIsLegal, DropIsLegal, ExhaustIsLegal}
-use Rattle.tp_spec.specs.Following.{turn_events, last_take, rests_in, most_rests, is_busy_turn}
+use Rattle.tp_spec.specs.Machine.{dispatches, IsQuiet, IsSettled, IsRun, IsWholeRun, IsCovered, candidate, unmet_goals, no_worse, mark_before, open_nodes, IsBest, AreLiveMarks, TakeIsLegal, Machine, Node, first, step, readings, ticks, Legal, IsDue, ExpandIsLegal, PublishIsLegal, LimitIsLegal, DropIsLegal, ExhaustIsLegal}
+use Rattle.tp_spec.specs.Following.{turn_events, last_take, rests_in, most_rests, is_busy_turn, IsBusy}
 use Rattle.tp_spec.specs.Samples.{sample, two, problem, instant, mixed, sharing, raising, act, plan, limits, guarded, opens, joins, reading, timings, at_five, schedule, word_act, node}
 
 -- 1 compared with 2, with 1, and 2 with 1
@@ -209,6 +209,20 @@ Reads = (map (λ b. reads_at 0 (Expr-F.Sum b true)) (true ∷ false ∷ []) ≡ 
     × (map (λ b. reads_at 0 (Expr-F.Sum b false)) (true ∷ false ∷ []) ≡ true ∷ false ∷ [])
     × (map (λ b. reads_at 0 (Expr-F.Difference b true)) (true ∷ false ∷ []) ≡ true ∷ true ∷ [])
     × (map (λ b. reads_at 0 (Expr-F.Difference b false)) (true ∷ false ∷ []) ≡ true ∷ false ∷ [])
+
+-- Pairs are all pairs, neighbours are neighbours alone.
+abbrev pub PairsAndNeighbours : Type 0
+PairsAndNeighbours = (map (each_pair nat_lt) ((1 ∷ 2 ∷ 3 ∷ []) ∷ (1 ∷ 3 ∷ 3 ∷ []) ∷ (2 ∷ 3 ∷ 1 ∷ [])
+    ∷ [])
+    ≡ true ∷ false ∷ false ∷ [])
+    × (map (each_next nat_lt) ((1 ∷ 2 ∷ 3 ∷ []) ∷ (1 ∷ 3 ∷ 3 ∷ []) ∷ (3 ∷ 1 ∷ 2 ∷ []) ∷ [])
+    ≡ true ∷ false ∷ false ∷ [])
+    × (each_next (λ a b. not (a == b)) (1 ∷ 2 ∷ 1 ∷ []) ≡ true)
+    × (each_pair (λ a b. not (a == b)) (1 ∷ 2 ∷ 1 ∷ []) ≡ false)
+
+-- A list begins with its first member, and not with its second.
+abbrev pub Fronts : Type 0
+Fronts = BeginsWith {A = ℕ} (1 ∷ 2 ∷ []) (1 ∷ []) × ¬ (BeginsWith {A = ℕ} (1 ∷ 2 ∷ []) (2 ∷ []))
 
 -- A length is 0 of an instant action, from the least to the most of one that lasts, and none of
 -- what is no action.
@@ -812,6 +826,37 @@ PublishedLeast = (p : Problem) (l : Limits) (m : Machine) (actor id : ℕ) (plan
     → (n : Node) × (n.id ≡ id) × (spell p plan ≡ n.word)
     × ((x : Schedule) × IsLeast p l m.now m.commits n.word x × (plan ≡ plan_of p n.word x))
 
+-- An act that is due is the next start of the best node, by its greatest schedule.
+abbrev pub DueAct : Type 0
+DueAct = (p : Problem) (l : Limits) (m : Machine) (act : Timed) → IsDue p l m act
+    → (n : Node) × IsBest p m.nodes n
+    × ((x : Schedule) × IsGreatest p l m.now m.commits n.word x
+    × ((a : Act) × (candidate [] m.commits (acts_of p n.word) ≡ Some a) × (act ≡ timed_act x a)))
+
+-- A machine is settled where an outcome stands or it is quiet, and no other is.
+abbrev pub Settled : Type 0
+Settled = (p : Problem) (l : Limits) (m : Machine)
+    → (m.over ≡ true → IsSettled p l m)
+    × (IsQuiet p l m → IsSettled p l m)
+    × (IsSettled p l m → m.over ≡ false → IsQuiet p l m)
+
+-- Where the machine is quiet the best node is live, and no act is due once acts are dispatched.
+abbrev pub Quiet : Type 0
+Quiet = (p : Problem) (l : Limits) (m : Machine) → IsQuiet p l m
+    → ((n : Node) × IsBest p m.nodes n × Live p l m.now m.commits n.word)
+    × (dispatches ≡ true → (act : Timed) → ¬ (IsDue p l m act))
+
+-- In a run each event is legal after those before it, and a whole run ends settled.
+abbrev pub Runs : Type 0
+Runs = (p : Problem) (l : Limits) (e f : Event)
+    → (IsRun p l (e ∷ f ∷ []) → Legal p l first e × Legal p l (step l first e) f)
+    × (IsWholeRun p l (e ∷ f ∷ []) → IsSettled p l (step l (step l first e) f))
+
+-- A covered plan's word begins with the word of a node of the frontier.
+abbrev pub Covered : Type 0
+Covered = (p : Problem) (m : Machine) (plan : Plan) → IsCovered p m plan
+    → (n : Node) × IsIn n m.nodes × BeginsWith (spell p plan) n.word
+
 -- The events of a turn end before the next Tick or Halt.
 abbrev pub TurnEvents : Type 0
 TurnEvents = (turn_events (Drop 4 ∷ Take 2 4 ∷ Tick 1 3 ∷ Drop 5 ∷ []) ≡ Drop 4 ∷ Take 2 4 ∷ [])
@@ -852,3 +897,14 @@ BusyMerges = (busy (Tick 1 0 ∷ Take 1 0 ∷ []) 1 (Expand 1 0 [] ∷ []) ≡ t
     × (busy (Tick 1 0 ∷ Take 1 0 ∷ []) 1 (Expand 1 3 [] ∷ []) ≡ false)
     × (busy (Tick 1 0 ∷ Take 1 0 ∷ []) 1 (Drop 0 ∷ []) ≡ true)
     × (busy (Tick 1 0 ∷ Take 1 0 ∷ []) 1 (Exhaust ∷ []) ≡ true)
+
+-- A worker takes the root, and expands it.
+abbrev pub expands_root : List Event
+expands_root = Tick 1 0 ∷ Take 1 0 ∷ Tick 1 0 ∷ Expand 1 0 (opens (Start 0) ∷ []) ∷ []
+
+-- It is busy where it takes the new node next, and not where it takes nothing, nor is a worker too
+-- many.
+abbrev pub BusyHistories : Type 0
+BusyHistories = IsBusy (limits 2 9) 1 (expands_root ++ Tick 1 0 ∷ Take 1 1 ∷ [])
+    × ¬ (IsBusy (limits 2 9) 1 (expands_root ++ Tick 1 0 ∷ []))
+    × ¬ (IsBusy (limits 2 9) 1 (Tick 2 0 ∷ Take 2 0 ∷ []))

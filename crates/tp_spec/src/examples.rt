@@ -8,8 +8,15 @@ ghost use Rattle.tp_spec.specs.Pinned.{Finishes, Awaited, Plans, Punctual, Short
 ghost use Rattle.tp_spec.specs.Pinned.{NotRising, NotWithinHorizon, NotTimed, NotBeforeNext, TooShort, TooLong, NotEndingWithin, NotOpenLate, NotAtClockYet, SecondTooEarly, WrongCommitment, WrongLength, NotOwing, TooMany};
 ghost use Rattle.tp_spec.specs.Pinned.{Candidates, Ranks, BestNodes, MarkOrder, BestOfTwo, OpenNodes};
 ghost use Rattle.tp_spec.specs.Pinned.{FirstState, TickStep, SettlingSteps, TakeStep, ExpandStep, Outcomes, Readings};
-ghost use Rattle.tp_spec.specs.Pinned.{NoneAfterOutcome, OfTakers, AtLimit, Dropped, Published, Exhausted, DueSoon, MarksAreLive, Expanded, Taken, PublishedLeast};
-ghost use Rattle.tp_spec.specs.Pinned.{TurnEvents, LastTakes, Rests, BusyTakes, BusyMerges};
+ghost use Rattle.tp_spec.specs.Pinned.{NoneAfterOutcome, OfTakers, AtLimit, Dropped, Published, Exhausted, DueSoon, MarksAreLive, Expanded, Taken, PublishedLeast, DueAct, Settled, Quiet, Runs, Covered};
+ghost use Rattle.tp_spec.specs.Pinned.{TurnEvents, LastTakes, Rests, BusyTakes, BusyMerges, BusyHistories};
+ghost use Rattle.tp_spec.specs.Pinned.{PairsAndNeighbours, Fronts};
+
+/// Pairs, neighbours and fronts of lists.
+pub fn lists()
+    ensures pairs { PairsAndNeighbours }
+    ensures fronts { Fronts }
+{}
 
 /// States, values and conditions.
 pub fn states()
@@ -171,6 +178,11 @@ pub fn legal_events()
     ensures expanded { Expanded }
     ensures taken { Taken }
     ensures least { PublishedLeast }
+    ensures due_act { DueAct }
+    ensures settled { Settled }
+    ensures quiet { Quiet }
+    ensures runs { Runs }
+    ensures covered { Covered }
 {}
 
 /// Which turns are busy.
@@ -180,4 +192,5 @@ pub fn turns()
     ensures rests { Rests }
     ensures busy_takes { BusyTakes }
     ensures busy_merges { BusyMerges }
+    ensures busy { BusyHistories }
 {}

@@ -10,8 +10,8 @@ mod problem;
 
 pub use event::{Cause, Event};
 pub use examples::{
-    choices, courses, events, interference, items, legal_events, no_schedules, plans, schedules,
-    states, turns, words,
+    choices, courses, events, interference, items, legal_events, lists, no_schedules, plans,
+    schedules, states, turns, words,
 };
 pub use expr::Expr;
 pub use list::{List, Name, NoMemory};

@@ -1,4 +1,4 @@
-use Rattle.std.proofs.Common.{◌≡◌, ap, sym, subst, arith, ◌∙◌, ◌+◌, ◌≤◌, ◌<◌, true, false}
+use Rattle.std.proofs.Common.{inl, inr, ◌≡◌, ap, sym, subst, arith, ◌∙◌, ◌+◌, ◌≤◌, ◌<◌, true, false}
 use Rattle.std.proofs.lemmas.Bool.{false≢true}
 use Rattle.tp_spec.specs.declared.event.Event.{Event}
 use Rattle.tp_spec.specs.declared.event.Event.TheVariants.{Tick, Drop, Dispatch, Take, Expand, Publish, Limit, Exhaust, Halt}
@@ -60,3 +60,22 @@ returns-clause-taken c p l m actor id h = (h.node, h.named, h.least, h.live)
 
 pub returns-clause-least : goal.returns-clause-least
 returns-clause-least c p l m actor id plan h = (h.node, h.taken.named, h.spells, (h.schedule, h.least, h.is))
+
+pub returns-clause-due_act : goal.returns-clause-due_act
+returns-clause-due_act c p l m act h = (h.node, h.best, (h.schedule, h.greatest, (h.next, h.is_next, h.is)))
+
+pub returns-clause-settled : goal.returns-clause-settled
+returns-clause-settled c p l m = (
+  λ e. inl e,
+  λ q. inr q,
+  λ h f. elim h [ inl e ↦ absurd (both_ways m e f) | inr q ↦ q ],
+)
+
+pub returns-clause-quiet : goal.returns-clause-quiet
+returns-clause-quiet c p l m h = ((h.node, h.best, h.live), h.not_urgent)
+
+pub returns-clause-runs : goal.returns-clause-runs
+returns-clause-runs c p l e f = (λ h. (h.legal.0, h.legal.1.0), λ h. h.settled)
+
+pub returns-clause-covered : goal.returns-clause-covered
+returns-clause-covered c p m plan h = (h.node, h.there, h.begins)
