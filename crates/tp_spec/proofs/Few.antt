@@ -1,5 +1,5 @@
 -- What is asked of each number below one or two, and of each member of a short list.
-use Rattle.std.proofs.Common.{◌≡◌, ℕ, zero, suc, ◌<◌, arith, subst, ◌⊎◌, inl, inr, List, [], ◌∷◌, ap, Option, Some, None}
+use Rattle.std.proofs.Common.{◌≡◌, ℕ, zero, suc, ◌<◌, arith, subst, inl, inr, List, [], ◌∷◌, ap, Some, None}
 use Rattle.tp_spec.specs.Lists.{IsIn}
 
 pub below_one : (P : ℕ → Type 0) → P 0 → (g : ℕ) → g < 1 → P g

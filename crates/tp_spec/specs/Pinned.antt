@@ -5,7 +5,7 @@ use Rattle.tp_spec.specs.declared.event.Cause.TheVariants.{Script}
 use Rattle.tp_spec.specs.declared.event.Event.{Event}
 use Rattle.tp_spec.specs.declared.event.Event.TheVariants.{Tick, Drop, Dispatch, Take, Expand, Publish, Limit, Exhaust, Halt}
 use Rattle.tp_spec.specs.declared.expr.Expr.{Expr}
-use Rattle.tp_spec.specs.declared.expr.Expr.TheVariants.{Number, Fluent, Difference}
+use Rattle.tp_spec.specs.declared.expr.Expr.TheVariants.{Fluent, Difference}
 use Rattle.tp_spec.specs.declared.expr.Expr.TheOpen.{Expr-F}
 use Rattle.tp_spec.specs.declared.plan.Item.{Item}
 use Rattle.tp_spec.specs.declared.plan.Item.TheVariants.{TimedAt, Start, End}
@@ -23,7 +23,7 @@ use Rattle.tp_spec.specs.declared.problem.How.TheVariants.{Increase, Decrease, A
 use Rattle.tp_spec.specs.declared.problem.Op.{Op}
 use Rattle.tp_spec.specs.declared.problem.Op.TheVariants.{Less, LessEq, Equal, MoreEq, More}
 use Rattle.tp_spec.specs.States.{State, initial, value, value_at, compares, holds}
-use Rattle.tp_spec.specs.Items.{all_items, item_before, is_durative, effects, conditions, invariants, is_defined, own, changed, next, fits, has_after}
+use Rattle.tp_spec.specs.Items.{all_items, item_before, is_durative, effects, conditions, invariants, is_defined, own, next, fits, has_after}
 use Rattle.tp_spec.specs.Interference.{reads_at, disturbs, collides, interfere}
 use Rattle.tp_spec.specs.Courses.{in_range, happening, runs_at, act_before, state_before, state_after, Passes, Valid, has_act, Possible}
 use Rattle.tp_spec.specs.Lists.{IsIn, BeginsWith, each_pair, each_next}

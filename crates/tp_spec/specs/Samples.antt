@@ -1,5 +1,5 @@
 -- Small states, problems and plans against which the definitions are pinned.
-use Rattle.std.specs.Prelude.{ℕ, Bool, true, false, List, [], ◌∷◌, Option, Some, None, ℤ, pos, ◌==◌, ◌&&◌, if◌then◌else◌, slice_get}
+use Rattle.std.specs.Prelude.{ℕ, Bool, true, false, List, [], ◌∷◌, Option, None, ℤ, pos, ◌==◌, ◌&&◌, if◌then◌else◌, slice_get}
 use Rattle.std.specs.Option.{option_and_then}
 use Rattle.tp_spec.specs.declared.expr.Expr.{Expr}
 use Rattle.tp_spec.specs.declared.expr.Expr.TheVariants.{Number}

@@ -1,4 +1,4 @@
-use Rattle.std.proofs.Common.{inl, inr, ◌≡◌, ap, sym, subst, arith, ◌∙◌, ◌+◌, ◌≤◌, ◌<◌, true, false}
+use Rattle.std.proofs.Common.{inl, inr, ◌≡◌, sym, subst, ◌∙◌, ◌+◌, ◌≤◌, ◌<◌, true, false}
 use Rattle.std.proofs.lemmas.Bool.{false≢true}
 use Rattle.tp_spec.specs.declared.event.Event.{Event}
 use Rattle.tp_spec.specs.declared.event.Event.TheVariants.{Tick, Drop, Dispatch, Take, Expand, Publish, Limit, Exhaust, Halt}

@@ -1,4 +1,4 @@
-use Rattle.std.proofs.Common.{refl, sym, arith, inl, Some, None}
+use Rattle.std.proofs.Common.{refl, arith, inl, Some, None}
 use Rattle.std.proofs.lemmas.Bool.{false≢true}
 use Rattle.tp_spec.specs.Samples.{act, word_act}
 use Rattle.tp_spec.proofs.examples.no_schedules.Goals as goal
