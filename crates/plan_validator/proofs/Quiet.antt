@@ -12,7 +12,7 @@ use Rattle.tp_spec.specs.States.{State, holds}
 use Rattle.tp_spec.specs.Items.{own, invariants, after}
 use Rattle.tp_spec.specs.Interference.{interfere}
 use Rattle.tp_spec.specs.Courses.{happening, runs_at, keeps_invariants, state_before, state_after, Passes}
-use Rattle.tp_laws.proofs.Ticks.{le_suc}
+use Rattle.tp_spec.proofs.Ticks.{le_suc}
 use Rattle.tp_laws.proofs.States.{state_after-quiet}
 use Rattle.plan_validator.specs.Acts.{is_of}
 use Rattle.plan_validator.proofs.Rising.{has_item}

@@ -11,7 +11,7 @@ use Rattle.tp_spec.specs.Lists.{is_empty}
 use Rattle.tp_spec.specs.Courses.{happening}
 use Rattle.tp_spec.specs.Words.{groups, joining, marked, spelled}
 use Rattle.tp_laws.specs.Laws.{happening_ticks}
-use Rattle.tp_laws.proofs.Ticks.{le_suc}
+use Rattle.tp_spec.proofs.Ticks.{le_suc}
 
 pub groups-append : (u v : List Mark) → groups (u ++ v) ≡ groups u + groups v
 groups-append [] v = omega arith

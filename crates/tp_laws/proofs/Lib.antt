@@ -1,4 +1,3 @@
-pub mod Ticks
 pub mod States
 pub mod Reorderings
 pub mod Orders

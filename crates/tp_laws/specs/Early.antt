@@ -43,7 +43,10 @@ LiveWhereShort p l = (w : List Mark) → Sound p w → Live p l 0 [] w ↔ IsSho
 
 -- A mark keeps a live word live exactly where it may follow and the word stays short.
 abbrev pub LiveByMark : Problem → Limits → Type 0
-LiveByMark p l = (w : List Mark) (a : Mark) → Live p l 0 [] w → Live p l 0 [] (w ++ a ∷ []) ↔ (IsTrue (may_follow p (progress p w) a) × IsShort p l (w ++ a ∷ []))
+LiveByMark p l =
+    (w : List Mark) (a : Mark) → Live p l 0 [] w
+    → Live p l 0 [] (w ++ a ∷ []) ↔
+    (IsTrue (may_follow p (progress p w) a) × IsShort p l (w ++ a ∷ []))
 
 -- Each mark of a sound word is a start.
 abbrev pub MarksAreStarts : Problem → Limits → Type 0
@@ -55,17 +58,25 @@ LeastIsConsecutive p l = (w : List Mark) → Live p l 0 [] w → IsLeast p l 0 [
 
 -- Each front of a possible plan's word is live.
 abbrev pub FrontsAreLive : Problem → Limits → Type 0
-FrontsAreLive p l = (plan : Plan) (front : List Mark) → Possible p l 0 [] plan → BeginsWith (spell p plan) front → Live p l 0 [] front
+FrontsAreLive p l =
+    (plan : Plan) (front : List Mark) → Possible p l 0 [] plan → BeginsWith (spell p plan) front
+    → Live p l 0 [] front
 
 -- A possible plan whose word begins with the word of a node is covered so after a legal Expand too.
 abbrev pub ExpandKeepsCovered : Problem → Limits → Type 0
-ExpandKeepsCovered p l = (m : Machine) (actor id : ℕ) (marks : List Mark) → IsEarly m → ExpandIsLegal p l m actor id marks
-    → (plan : Plan) → Possible p l m.now m.commits plan → IsCovered p m plan → IsCovered p (step l m (Expand actor id marks)) plan
+ExpandKeepsCovered p l =
+    (m : Machine) (actor id : ℕ) (marks : List Mark) → IsEarly m
+    → ExpandIsLegal p l m actor id marks
+    → (plan : Plan) → Possible p l m.now m.commits plan → IsCovered p m plan
+    → IsCovered p (step l m (Expand actor id marks)) plan
 
 -- The plan of a word's least schedule has this word.
 abbrev pub LeastPlanHasWord : Problem → Limits → Type 0
-LeastPlanHasWord p l = (w : List Mark) (x : Schedule) → Sound p w → IsLeast p l 0 [] w x → spell p (plan_of p w x) ≡ w
+LeastPlanHasWord p l =
+    (w : List Mark) (x : Schedule) → Sound p w → IsLeast p l 0 [] w x → spell p (plan_of p w x) ≡ w
 
 -- It is possible where every goal part holds after the word.
 abbrev pub LeastPlanIsPossible : Problem → Limits → Type 0
-LeastPlanIsPossible p l = (w : List Mark) (x : Schedule) → Sound p w → IsLeast p l 0 [] w x → rank p w ≡ 0 → Possible p l 0 [] (plan_of p w x)
+LeastPlanIsPossible p l =
+    (w : List Mark) (x : Schedule) → Sound p w → IsLeast p l 0 [] w x → rank p w ≡ 0
+    → Possible p l 0 [] (plan_of p w x)

@@ -75,7 +75,8 @@ switch = record {
   goal = truth 0 ∷ [];
 }
 
--- an action of 4 ticks that needs one fact while it runs, gives another at its start, and reaches a goal at its end
+-- an action of 4 ticks that needs one fact while it runs, gives another at its start, and reaches a
+-- goal at its end
 abbrev pub supported : List ℕ → ℕ → ℕ → ℕ → Action
 supported name needs gives reaches = record {
   name = name;
@@ -100,7 +101,8 @@ arch = record {
   goal = truth 0 ∷ truth 1 ∷ [];
 }
 
--- a drive of 5 ticks from a to b, past a gate that closes at a tick; the gate is asked while it runs, or at its end
+-- a drive of 5 ticks from a to b, past a gate that closes at a tick; the gate is asked while it
+-- runs, or at its end
 abbrev pub gated : List Cond → List Cond → ℕ → Ground
 gated throughout last closing = record {
   scale = 1;
@@ -154,7 +156,8 @@ opens i = record { fresh = true; item = i }
 abbrev pub joins : Item → Mark
 joins i = record { fresh = false; item = i }
 
--- the search for a plan of the lamp: the root is expanded by its one mark, and the child is published
+-- the search for a plan of the lamp: the root is expanded by its one mark, and the child is
+-- published
 abbrev pub pressed : List Event
 pressed =
     Tick 1 0 ∷ Take 1 0 ∷ Tick 1 0 ∷ Expand 1 0 (opens (Start 0) ∷ [])

@@ -20,7 +20,8 @@ NoItemsChangeNothing = (p : Problem) (s : State) → after p s [] ≡ Some s
 
 -- A tick that is no happening changes nothing, so the course of a plan needs its happenings alone.
 abbrev pub QuietTicksChangeNothing : Type 0
-QuietTicksChangeNothing = (p : Problem) (acts : List Timed) (t : ℕ) → IsTrue (is_empty (happening p acts t))
+QuietTicksChangeNothing =
+    (p : Problem) (acts : List Timed) (t : ℕ) → IsTrue (is_empty (happening p acts t))
     → state_after p acts t ≡ state_before p acts t
 
 -- The order in which items are listed changes nothing where no two interfere.
@@ -34,18 +35,21 @@ abbrev pub one_by_one : Problem → State → List Item → State
 one_by_one p s [] = s
 one_by_one p s (i ∷ rest) = one_by_one p (next s (effects p i)) rest
 
--- Items of which no two interfere do together what they do one after another, if values between are not limited.
--- PDDL 2.1, section 6 (simultaneous actions that do not interfere).
+-- Items of which no two interfere do together what they do one after another, if values between are
+-- not limited. PDDL 2.1, section 6 (simultaneous actions that do not interfere).
 abbrev pub TogetherAsOneByOne : Type 0
 TogetherAsOneByOne = (p : Problem) (s : State) (xs : List Item)
-    → IsTrue (each_pair (λ i j. not (interfere p i j)) xs) → one_by_one p s xs ≡ next s (effects_of p xs)
+    → IsTrue (each_pair (λ i j. not (interfere p i j)) xs)
+    → one_by_one p s xs ≡ next s (effects_of p xs)
 
 -- the happenings of some acts before a tick, by their ticks
 abbrev pub happening_ticks : Problem → List Timed → ℕ → List ℕ
 happening_ticks p acts zero = []
-happening_ticks p acts (suc t) = happening_ticks p acts t ++ (if is_empty (happening p acts t) then [] else t ∷ [])
+happening_ticks p acts (suc t) =
+    happening_ticks p acts t ++ (if is_empty (happening p acts t) then [] else t ∷ [])
 
--- A word has one group for each happening of its plan, and the plan ends at the last of them, at 0 where there is none.
+-- A word has one group for each happening of its plan, and the plan ends at the last of them, at 0
+-- where there is none.
 pub record EndsAtLastGroup (p : Problem) (plan : Plan) : Type 0 where
   pub grouped : groups (spell p plan) ≡ length (happening_ticks p plan.acts (suc plan.end))
   pub ends : last_or (Some 0) (happening_ticks p plan.acts (suc plan.end)) ≡ Some plan.end

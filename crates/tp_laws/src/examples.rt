@@ -15,15 +15,16 @@ pub fn goal_at_start()
     ensures empty { Possible reached wide 0 [] (plan [] 0) }
 {}
 
-/// Two durative actions that give each other's invariant in one happening are valid together, and neither is alone.
+/// Two durative actions that give each other's invariant in one happening are valid together, and
+/// neither is alone.
 pub fn invariants_given_together()
     ensures both { Valid arch wide (plan (act 0 0 4 ∷ act 1 0 4 ∷ []) 4) }
     ensures not_left { ¬ Valid arch wide (plan (act 0 0 4 ∷ []) 4) }
     ensures not_right { ¬ Valid arch wide (plan (act 1 0 4 ∷ []) 4) }
 {}
 
-/// Plans that fail at one tick: two starts that clash, an invariant that a timed literal deletes, and an end that needs
-/// what is deleted at its own tick; one tick later is in time.
+/// Plans that fail at one tick: two starts that clash, an invariant that a timed literal deletes,
+/// and an end that needs what is deleted at its own tick; one tick later is in time.
 pub fn unsafe_plans()
     ensures clash { ¬ Valid switch wide (plan (act 0 0 0 ∷ act 1 0 0 ∷ []) 0) }
     ensures broken { ¬ Valid (gated (truth 2 ∷ []) [] 4) wide (plan (act 0 0 5 ∷ []) 5) }
@@ -33,12 +34,14 @@ pub fn unsafe_plans()
 
 /// An increase past 64 bits has no state after.
 pub fn states_after()
-    ensures { after (tank (pos (2 ^ 63 - 1))) (initial (tank (pos (2 ^ 63 - 1)))) (End 0 ∷ []) ≡ None }
+    ensures { after (tank (pos (2 ^ 63 - 1))) (initial (tank (pos (2 ^ 63 - 1)))) (End 0 ∷ [])
+        ≡ None }
 {}
 
 /// The end of one pumping and the start of the next share a group.
 pub fn spelled_words()
-    ensures { spell (tank (pos 0)) (plan (act 0 0 2 ∷ act 0 2 2 ∷ []) 4) ≡ opens (Start 0) ∷ opens (End 0) ∷ joins (Start 0) ∷ opens (End 0) ∷ [] }
+    ensures { spell (tank (pos 0)) (plan (act 0 0 2 ∷ act 0 2 2 ∷ []) 4) ≡ opens (Start 0)
+        ∷ opens (End 0) ∷ joins (Start 0) ∷ opens (End 0) ∷ [] }
 {}
 
 /// What is printed: ticks in units of time, a command, and the result of a history.
@@ -49,8 +52,8 @@ pub fn printed_texts()
     ensures nothing { out_text lamp (Tick 1 0 ∷ []) ≡ [] }
 {}
 
-/// A worker that takes and merges in turns is busy; one that makes an empty turn while a node is open is not, nor is one
-/// that takes another node where it should merge.
+/// A worker that takes and merges in turns is busy; one that makes an empty turn while a node is
+/// open is not, nor is one that takes another node where it should merge.
 pub fn busy_histories()
     ensures busy { IsBusy wide 1 pressed }
     ensures idle { ¬ IsBusy wide 1 (Tick 1 0 ∷ pressed) }

@@ -16,14 +16,15 @@ pub fn order_of_items()
     ensures sequence { TogetherAsOneByOne }
 {}
 
-/// A valid plan ends at its word's last group: the word has a group for each happening up to the end, and the acts and
-/// the word give the end.
+/// A valid plan ends at its word's last group: the word has a group for each happening up to the
+/// end, and the acts and the word give the end.
 pub fn end_of_word()
     ensures last { OfValid EndsAtLastGroup }
     ensures given { WordGivesEnd }
 {}
 
-/// Reading a valid plan's word leads through the states of its course, up to one in which the goal holds.
+/// Reading a valid plan's word leads through the states of its course, up to one in which the goal
+/// holds.
 pub fn states_read()
     ensures course { OfValid ReadsStates }
     ensures goal { OfValid ReadsToGoal }

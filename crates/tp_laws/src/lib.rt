@@ -1,5 +1,5 @@
-//! Laws over the planner's definitions, and the definitions checked against worked examples. A function here has no
-//! body: its contract is the law.
+//! Laws over the planner's definitions, and the definitions checked against worked examples. A
+//! function here has no body: its contract is the law.
 #![tactic(auto)]
 
 mod early;

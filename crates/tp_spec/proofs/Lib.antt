@@ -1,1 +1,4 @@
 pub mod Sends
+pub mod Leaves
+pub mod Ticks
+pub mod Few

@@ -1,5 +1,5 @@
 -- A problem may be shared by threads: the check does not find this through `Expr`, which leads back to itself.
-use denote.Param.Send.{IsSend, IsSync, sendable, view_sync, recorded_sync}
+use denote.Param.Send.{IsSync, sendable, view_sync, recorded_sync}
 use Rattle.tp_spec.specs.contracts.problem.Problem.TheInside as Inside
 use Rattle.std.proofs.Crossing.{crosses}
 use Rattle.tp_spec.specs.contracts.problem.Problem as Problem

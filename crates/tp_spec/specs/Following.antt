@@ -1,12 +1,13 @@
 -- Turns, and histories in which every worker does its work.
-use Rattle.std.specs.Prelude.{◌≡◌, ℕ, suc, Bool, true, false, not, ◌&&◌, ◌||◌, ◌==◌, nat_le, nat_lt, List, [], ◌∷◌, ◌++◌, Option, Some, None, IsTrue, if◌then◌else◌, fold}
+use Rattle.std.specs.Prelude.{ℕ, suc, Bool, true, false, not, ◌&&◌, ◌||◌, ◌==◌, nat_le, nat_lt, List, [], ◌∷◌, ◌++◌, Option, Some, None, IsTrue, if◌then◌else◌, fold}
 use Rattle.std.specs.List.{list_any}
 use Rattle.tp_spec.specs.declared.event.Event.{Event}
-use Rattle.tp_spec.specs.declared.event.Event.TheVariants.{Tick, Drop, Dispatch, Take, Expand, Publish, Limit, Exhaust, Halt}
+use Rattle.tp_spec.specs.declared.event.Event.TheVariants.{Tick, Take, Expand, Publish, Limit, Halt}
 use Rattle.tp_spec.specs.declared.plan.Limits.{Limits}
-use Rattle.tp_spec.specs.Machine.{Machine, Node, first, end_of, is_open}
+use Rattle.tp_spec.specs.Machine.{Machine, first, end_of, is_open}
 
--- A turn is a Tick and the events behind it up to the next Tick or Halt. These are the events up to there.
+-- A turn is a Tick and the events behind it up to the next Tick or Halt. These are the events up to
+-- there.
 abbrev pub turn_events : List Event → List Event
 turn_events [] = []
 turn_events (Tick actor reading ∷ rest) = []
@@ -35,9 +36,11 @@ is_take _ = false
 abbrev pub serves_take : Machine → List Event → Bool
 serves_take end events = list_any is_take events || end.over || not (list_any is_open end.nodes)
 
--- whether a turn has a deed on this id, or ends with an outcome, or ends with the id not in the frontier
+-- whether a turn has a deed on this id, or ends with an outcome, or ends with the id not in the
+-- frontier
 abbrev pub serves_merge : ℕ → Machine → List Event → Bool
-serves_merge id end events = list_any (is_deed_on id) events || end.over || not (list_any (λ n. n.id == id) end.nodes)
+serves_merge id end events =
+    list_any (is_deed_on id) events || end.over || not (list_any (λ n. n.id == id) end.nodes)
 
 -- what an actor's last turn took, event by event
 abbrev pub took_after : ℕ → Option ℕ → Event → Option ℕ
@@ -61,8 +64,9 @@ rests_in before = fold rest_after 0 before
 abbrev pub most_rests : ℕ
 most_rests = 10000
 
--- A turn that a busy history may have, behind these events. The dispatcher, actor 0, makes no deed and looks within
--- its bound. A worker that took a node serves its merge; else it finds an open node and serves a take.
+-- A turn that a busy history may have, behind these events. The dispatcher, actor 0, makes no deed
+-- and looks within its bound. A worker that took a node serves its merge; else it finds an open
+-- node and serves a take.
 abbrev pub is_busy_turn : Limits → ℕ → List Event → ℕ → ℕ → List Event → Bool
 is_busy_turn l workers before actor reading events =
     let found = end_of l first before in
@@ -78,7 +82,8 @@ is_busy_turn l workers before actor reading events =
 abbrev pub are_busy : Limits → ℕ → List Event → List Event → Bool
 are_busy l workers before [] = true
 are_busy l workers before (Tick actor reading ∷ rest) =
-    is_busy_turn l workers before actor reading (turn_events rest) && are_busy l workers (before ++ Tick actor reading ∷ []) rest
+    is_busy_turn l workers before actor reading (turn_events rest)
+    && are_busy l workers (before ++ Tick actor reading ∷ []) rest
 are_busy l workers before (e ∷ rest) = are_busy l workers (before ++ e ∷ []) rest
 
 -- Every turn of a history does its actor's work.

@@ -1,12 +1,11 @@
 -- Which items may not stand at one tick.
-use Rattle.std.specs.Prelude.{ℕ, Bool, true, false, not, ◌&&◌, ◌||◌, ◌==◌, List}
+use Rattle.std.specs.Prelude.{ℕ, Bool, false, ◌||◌, ◌==◌}
 use Rattle.std.specs.List.{list_any}
 use Rattle.tp_spec.specs.declared.expr.Expr.{Expr, fold-Expr}
 use Rattle.tp_spec.specs.declared.expr.Expr.TheOpen.{Expr-F}
 use Rattle.tp_spec.specs.declared.plan.Item.{Item}
 use Rattle.tp_spec.specs.declared.problem.Effect.{Effect}
 use Rattle.tp_spec.specs.declared.problem.Effect.TheVariants.{Add, Delete, Change}
-use Rattle.tp_spec.specs.declared.problem.How.{How}
 use Rattle.tp_spec.specs.declared.problem.Cond.{Cond}
 use Rattle.tp_spec.specs.declared.problem.Cond.TheVariants.{Lit, Compare}
 use Rattle.tp_spec.specs.declared.problem.Problem.{Problem}
@@ -45,8 +44,8 @@ disturbs (Add f) c = asks f c
 disturbs (Delete f) c = asks f c
 disturbs (Change how x e) c = cond_reads x c
 
--- whether an effect adds what the other deletes, or writes a fluent that the other reads, or both write one fluent and
--- not both by increase or decrease
+-- whether an effect adds what the other deletes, or writes a fluent that the other reads, or both
+-- write one fluent and not both by increase or decrease
 abbrev pub collides : Effect → Effect → Bool
 collides (Add f) other = deletes f other
 collides (Delete f) other = adds f other
@@ -54,9 +53,11 @@ collides (Change how x e) other = effect_reads x other || overwrite (Change how 
 
 -- whether an effect of i disturbs a condition of j or collides with an effect of j
 abbrev pub touches : Problem → Item → Item → Bool
-touches p i j = list_any (λ e. list_any (disturbs e) (conditions p j) || list_any (collides e) (effects p j)) (effects p i)
+touches p i j =
+    list_any (λ e. list_any (disturbs e) (conditions p j) || list_any (collides e) (effects p j))
+    (effects p i)
 
--- Whether two different items interfere, in either direction.
--- PDDL 2.1, section 6 ('no moving targets'); the part on fluents is this project's own. The code has rows of bits.
+-- Whether two different items interfere, in either direction. PDDL 2.1, section 6 ('no moving
+-- targets'); the part on fluents is this project's own. The code has rows of bits.
 abbrev pub interfere : Problem → Item → Item → Bool
 interfere p i j = touches p i j || touches p j i

@@ -1,14 +1,12 @@
 -- Items, their order, what they ask, and what a set of them does to a state.
-use Rattle.std.specs.Prelude.{ℕ, ◌^◌, ◌-◌, Bool, true, false, not, ◌&&◌, ◌||◌, ◌==◌, nat_lt, List, [], ◌∷◌, ◌++◌, length, map, Option, Some, None, ℤ, pos, negsuc, ◌+ℤ◌, ◌-ℤ◌, int_le, if◌then◌else◌, slice_get, is_some}
+use Rattle.std.specs.Prelude.{ℕ, Bool, true, false, not, ◌&&◌, ◌||◌, ◌==◌, nat_lt, List, [], ◌∷◌, ◌++◌, length, map, Option, Some, None, ℤ, ◌+ℤ◌, ◌-ℤ◌, if◌then◌else◌, slice_get, is_some}
 use Rattle.std.specs.List.{list_any, list_all, flat_map, range_with_len}
 use Rattle.tp_spec.specs.Lists.{some_and, part_of}
 use Rattle.tp_spec.specs.declared.plan.Item.{Item}
 use Rattle.tp_spec.specs.declared.plan.Item.TheVariants.{TimedAt, End, Start}
-use Rattle.tp_spec.specs.declared.problem.Action.{Action}
 use Rattle.tp_spec.specs.declared.problem.Cond.{Cond}
 use Rattle.tp_spec.specs.declared.problem.Effect.{Effect}
 use Rattle.tp_spec.specs.declared.problem.Effect.TheVariants.{Add, Delete, Change}
-use Rattle.tp_spec.specs.declared.problem.How.{How}
 use Rattle.tp_spec.specs.declared.problem.How.TheVariants.{Increase, Decrease, Assign}
 use Rattle.tp_spec.specs.declared.problem.Kind.{Kind}
 use Rattle.tp_spec.specs.declared.problem.Kind.TheVariants.{Instant, Durative}
@@ -17,8 +15,8 @@ use Rattle.tp_spec.specs.declared.problem.TimedItem.{TimedItem}
 use Rattle.tp_spec.specs.States.{State, value, holds, of_both}
 use Rattle.tp_spec.specs.WellFormed.{is_value}
 
--- The items of a problem: its timed items, and the end and the start of each action. (The end of an instant action
--- never stands anywhere.)
+-- The items of a problem: its timed items, and the end and the start of each action. (The end of an
+-- instant action never stands anywhere.)
 abbrev pub all_items : Problem → List Item
 all_items p =
     map TimedAt (range_with_len 0 (length p.timed))
@@ -38,7 +36,9 @@ number (Start a) = a
 -- The item order: timed items first, then ends, then starts, each kind by its number.
 -- This project's own; the list `all_items` is in it.
 abbrev pub item_before : Item → Item → Bool
-item_before i j = nat_lt (kind_index i) (kind_index j) || (kind_index i == kind_index j && nat_lt (number i) (number j))
+item_before i j =
+    nat_lt (kind_index i) (kind_index j)
+    || (kind_index i == kind_index j && nat_lt (number i) (number j))
 
 abbrev pub is_durative_kind : Kind → Bool
 is_durative_kind Instant = false
@@ -73,9 +73,9 @@ is_defined s (Change Increase x e) = is_some (s.fluent x) && is_some (value s e)
 is_defined s (Change Decrease x e) = is_some (s.fluent x) && is_some (value s e)
 is_defined s (Change Assign x e) = is_some (value s e)
 
--- An item's own conditions: the written ones hold, each right side that it uses is defined, and each fluent that it
--- increases or decreases is.
--- PDDL 2.1, section 6 (applicability of a snap action).
+-- An item's own conditions: the written ones hold, each right side that it uses is defined, and
+-- each fluent that it increases or decreases is. PDDL 2.1, section 6 (applicability of a snap
+-- action). That numbers are defined is asked beside what is written.
 abbrev pub own : Problem → State → Item → Bool
 own p s i = list_all (holds s) (conditions p i) && list_all (is_defined s) (effects p i)
 
@@ -126,8 +126,8 @@ fits_new t (Change how x e) = fits (t.fluent x)
 abbrev pub has_after : Problem → State → List Item → Bool
 has_after p s items = list_all (fits_new (next s (effects_of p items))) (effects_of p items)
 
--- The state after a set of items, none where a new value leaves 64 bits. The set is a list in any order: items that
--- don't interfere commute.
--- PDDL 2.1, section 6 (happenings). The code changes bit rows and an array.
+-- The state after a set of items, none where a new value leaves 64 bits. The set is a list in any
+-- order: items that don't interfere commute. PDDL 2.1, section 6 (happenings). The code changes bit
+-- rows and an array.
 abbrev pub after : Problem → State → List Item → Option State
 after p s items = if has_after p s items then Some (next s (effects_of p items)) else None

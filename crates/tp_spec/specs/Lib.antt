@@ -11,3 +11,5 @@ pub mod Machine
 pub mod Following
 pub mod Texts
 pub mod Plain
+pub mod Samples
+pub mod Pinned

@@ -1,6 +1,6 @@
 -- The situated machine: its states, which events are legal, and runs.
 use Rattle.std.specs.Prelude.{◌≡◌, ◌⊎◌, ℕ, suc, ◌+◌, ◌<◌, ◌≤◌, min, max, Bool, true, false, not, ◌&&◌, ◌||◌, ◌==◌, nat_le, nat_lt, List, [], ◌∷◌, ◌++◌, length, map, Option, Some, None, IsTrue, IsSome, count_by, if◌then◌else◌, is_some}
-use Rattle.std.specs.List.{list_any, list_all, filter, flat_map}
+use Rattle.std.specs.List.{list_all, filter, flat_map}
 use Rattle.tp_spec.specs.declared.event.Event.{Event}
 use Rattle.tp_spec.specs.declared.event.Event.TheVariants.{Tick, Drop, Dispatch, Take, Expand, Publish, Limit, Exhaust, Halt}
 use Rattle.tp_spec.specs.declared.plan.Limits.{Limits}
@@ -13,10 +13,11 @@ use Rattle.tp_spec.specs.States.{holds}
 use Rattle.tp_spec.specs.Items.{item_before, has_after}
 use Rattle.tp_spec.specs.Courses.{Possible}
 use Rattle.tp_spec.specs.Words.{spell, progress, state_past, Progress, Act, acts_of}
-use Rattle.tp_spec.specs.Schedules.{Schedule, Live, IsGreatest, IsLeast, IsSchedule, without_first, timed_act, plan_of}
+use Rattle.tp_spec.specs.Schedules.{Schedule, Live, IsGreatest, IsLeast, timed_act, plan_of}
 
--- What of the machine is built. While the clock does not move, `now` stays 0 and readings are only kept; while nothing
--- is dispatched, no best node is urgent. This early machine is the whole one with both set to false.
+-- What of the machine is built. While the clock does not move, `now` stays 0 and readings are only
+-- kept; while nothing is dispatched, no best node is urgent. This early machine is the whole one
+-- with both set to false.
 abbrev pub clock_moves : Bool
 clock_moves = false
 
@@ -24,14 +25,17 @@ abbrev pub dispatches : Bool
 dispatches = false
 
 abbrev pub unmet_goals : Problem → Progress → ℕ
-unmet_goals p c = if has_after p c.before c.group then count_by (λ g. not (holds (state_past p c) g)) p.goal else length p.goal
+unmet_goals p c =
+    if has_after p c.before c.group then count_by (λ g. not (holds (state_past p c) g)) p.goal
+    else length p.goal
 
--- How many goal parts do not hold after all groups of a word; all of them where there is no state after the last one.
--- This project's own.
+-- How many goal parts do not hold after all groups of a word; all of them where there is no state
+-- after the last one. This project's own.
 unfoldable pub rank : Problem → List Mark → ℕ
 rank p w = unmet_goals p (progress p w)
 
 -- A node of the frontier: a word, and the actor that took it, or none while it is open.
+-- This project's own. The code keeps the word's rank with it.
 pub record Node : Type 0 where
   pub id : ℕ
   pub word : List Mark
@@ -42,8 +46,8 @@ pub record Turn : Type 0 where
   pub actor : ℕ
   pub acted : Bool
 
--- The clock, the commitments in order of dispatch, the frontier in order of ids, how many ids were given, the turn if
--- there is one, and whether an outcome stands.
+-- The clock, the commitments in order of dispatch, the frontier in order of ids, how many ids were
+-- given, the turn if there is one, and whether an outcome stands.
 pub record Machine : Type 0 where
   pub now : ℕ
   pub commits : List Timed
@@ -60,7 +64,8 @@ first = record { now = 0; commits = []; nodes = root ∷ []; made = 1; turn = No
 
 -- whether a node comes no later than another: by rank, then by id
 abbrev pub no_worse : Problem → Node → Node → Bool
-no_worse p m n = nat_lt (rank p m.word) (rank p n.word) || (rank p m.word == rank p n.word && nat_le m.id n.id)
+no_worse p m n =
+    nat_lt (rank p m.word) (rank p n.word) || (rank p m.word == rank p n.word && nat_le m.id n.id)
 
 -- the node of the least rank and id of a frontier
 pub record IsBest (p : Problem) (nodes : List Node) (n : Node) : Type 0 where
@@ -73,18 +78,19 @@ is_open n = not (is_some n.taker)
 abbrev pub open_nodes : List Node → List Node
 open_nodes nodes = filter is_open nodes
 
--- the first start of a word that is no commitment: the k-th start of an action is its k-th commitment
+-- the first start of a word that is no commitment: the k-th start of an action is its k-th
+-- commitment
 abbrev pub candidate : List Act → List Timed → List Act → Option Act
 candidate before commits [] = None
 candidate before commits (x ∷ xs) =
-    if nat_lt (count_by (λ y. y.action == x.action) before) (count_by (λ c. c.action == x.action) commits)
+    if nat_lt (count_by (λ y. y.action == x.action) before)
+    (count_by (λ c. c.action == x.action) commits)
     then candidate (before ++ x ∷ []) commits xs
     else Some x
 
--- The commit rule: the best node is urgent where it is live and its candidate's tick in the greatest
--- schedule is at most the clock plus the lead; the act that is due has this tick and the length that
--- this schedule gives.
--- This project's own.
+-- The commit rule: the best node is urgent where it is live and its candidate's tick in the
+-- greatest schedule is at most the clock plus the lead; the act that is due has this tick and the
+-- length that this schedule gives. This project's own.
 pub record IsDue (p : Problem) (l : Limits) (m : Machine) (act : Timed) : Type 0 where
   pub node : Node
   pub best : IsBest p m.nodes node
@@ -130,10 +136,13 @@ pub record IsTaken (m : Machine) (actor id : ℕ) (n : Node) : Type 0 where
 
 -- marks that are not fresh come first, then each kind in item order
 abbrev pub mark_before : Mark → Mark → Bool
-mark_before a b = if a.fresh then b.fresh && item_before a.item b.item else b.fresh || item_before a.item b.item
+mark_before a b =
+    if a.fresh then b.fresh && item_before a.item b.item else b.fresh || item_before a.item b.item
 
--- exactly the marks that make a word a live word, in order
-pub record AreLiveMarks (p : Problem) (l : Limits) (m : Machine) (w : List Mark) (marks : List Mark) : Type 0 where
+-- Exactly the marks that make a word a live word, in order. This project's own. The definition
+-- speaks of all marks, the code tries those of the problem's items.
+pub record AreLiveMarks (p : Problem) (l : Limits) (m : Machine) (w : List Mark) (marks : List Mark)
+    : Type 0 where
   pub in_order : IsTrue (each_next mark_before marks)
   pub live : (a : Mark) → IsIn a marks → Live p l m.now m.commits (w ++ a ∷ [])
   pub all : (a : Mark) → Live p l m.now m.commits (w ++ a ∷ []) → IsIn a marks
@@ -147,7 +156,8 @@ pub record DropIsLegal (p : Problem) (l : Limits) (m : Machine) (id : ℕ) : Typ
   pub node : Node
   pub there : IsIn node m.nodes
   pub named : node.id ≡ id
-  pub hopeless : (plan : Plan) → Possible p l m.now m.commits plan → ¬ (BeginsWith (spell p plan) node.word)
+  pub hopeless : (plan : Plan) → Possible p l m.now m.commits plan
+      → ¬ (BeginsWith (spell p plan) node.word)
 
 pub record DispatchIsLegal (p : Problem) (l : Limits) (m : Machine) (act : Timed) : Type 0 where
   pub built : dispatches ≡ true
@@ -161,7 +171,8 @@ pub record TakeIsLegal (p : Problem) (l : Limits) (m : Machine) (actor id : ℕ)
   pub named : node.id ≡ id
   pub live : Live p l m.now m.commits node.word
 
-pub record ExpandIsLegal (p : Problem) (l : Limits) (m : Machine) (actor id : ℕ) (marks : List Mark) : Type 0 where
+pub record ExpandIsLegal (p : Problem) (l : Limits) (m : Machine) (actor id : ℕ) (marks : List Mark)
+    : Type 0 where
   pub may : MayAct p l m actor
   pub node : Node
   pub taken : IsTaken m actor id node
@@ -169,7 +180,8 @@ pub record ExpandIsLegal (p : Problem) (l : Limits) (m : Machine) (actor id : �
   pub exact : AreLiveMarks p l m node.word marks
   pub room : m.made + length marks ≤ l.nodes
 
-pub record PublishIsLegal (p : Problem) (l : Limits) (m : Machine) (actor id : ℕ) (plan : Plan) : Type 0 where
+pub record PublishIsLegal (p : Problem) (l : Limits) (m : Machine) (actor id : ℕ) (plan : Plan) :
+    Type 0 where
   pub may : MayAct p l m actor
   pub node : Node
   pub taken : IsTaken m actor id node
@@ -179,7 +191,8 @@ pub record PublishIsLegal (p : Problem) (l : Limits) (m : Machine) (actor id : �
   pub least : IsLeast p l m.now m.commits node.word schedule
   pub is : plan ≡ plan_of p node.word schedule
 
-pub record LimitIsLegal (p : Problem) (l : Limits) (m : Machine) (actor id made marks : ℕ) : Type 0 where
+pub record LimitIsLegal (p : Problem) (l : Limits) (m : Machine) (actor id made marks : ℕ) :
+    Type 0 where
   pub may : MayAct p l m actor
   pub node : Node
   pub taken : IsTaken m actor id node
@@ -196,7 +209,7 @@ pub record ExhaustIsLegal (p : Problem) (l : Limits) (m : Machine) : Type 0 wher
   pub hopeless : (plan : Plan) → ¬ (Possible p l m.now m.commits plan)
 
 -- Which events are legal. The only free choice is Drop.
--- This project's own.
+-- This project's own. The definition asks about all possible plans, the code about one word.
 abbrev pub Legal : Problem → Limits → Machine → Event → Type 0
 Legal p l m (Tick actor reading) = IsBetween p l m
 Legal p l m (Drop id) = DropIsLegal p l m id
@@ -224,7 +237,8 @@ word_of id (n ∷ nodes) = if n.id == id then n.word else word_of id nodes
 -- one open node for each mark, with the next ids
 abbrev pub children : List Mark → ℕ → List Mark → List Node
 children w made [] = []
-children w made (a ∷ rest) = record { id = made; word = w ++ a ∷ []; taker = None } ∷ children w (suc made) rest
+children w made (a ∷ rest) =
+    record { id = made; word = w ++ a ∷ []; taker = None } ∷ children w (suc made) rest
 
 -- The clock after a reading: it never goes back, and stops one tick behind the horizon.
 abbrev pub now_after : Limits → ℕ → ℕ → ℕ
@@ -232,11 +246,23 @@ now_after l now reading = if clock_moves then max now (min reading (l.horizon + 
 
 -- the state after an event
 abbrev pub step : Limits → Machine → Event → Machine
-step l m (Tick actor reading) = record m { now = now_after l m.now reading; turn = Some (record { actor = actor; acted = false }) }
+step l m (Tick actor reading) =
+    record m {
+      now = now_after l m.now reading;
+      turn = Some
+          (record { actor = actor; acted = false });
+    }
 step l m (Drop id) = record m { nodes = without id m.nodes }
 step l m (Dispatch act) = record m { commits = m.commits ++ act ∷ [] }
 step l m (Take actor id) = record m { nodes = map (taken_by actor id) m.nodes; turn = with_deed m }
-step l m (Expand actor id marks) = record m { nodes = without id m.nodes ++ children (word_of id m.nodes) m.made marks; made = m.made + length marks; turn = with_deed m }
+step l m (Expand actor id marks) =
+    record m {
+      nodes = without id m.nodes
+          ++ children (word_of id m.nodes) m.made marks;
+      made = m.made
+          + length marks;
+      turn = with_deed m;
+    }
 step l m (Publish actor id plan) = record m { over = true; turn = with_deed m }
 step l m (Limit actor id made marks) = record m { over = true; turn = with_deed m }
 step l m Exhaust = record m { over = true }
@@ -254,7 +280,8 @@ abbrev pub AreLegal : Problem → Limits → Machine → List Event → Type 0
 AreLegal p l m [] = Unit {0}
 AreLegal p l m (e ∷ es) = Legal p l m e × AreLegal p l (step l m e) es
 
--- each event is legal where it stands
+-- Each event is legal where it stands.
+-- This project's own.
 pub record IsRun (p : Problem) (l : Limits) (history : List Event) : Type 0 where
   pub legal : AreLegal p l first history
 

@@ -1,13 +1,11 @@
 -- Plain problems: all that the first path solves.
-use Rattle.std.specs.Prelude.{ℕ, Bool, true, false, not, ◌&&◌, List}
+use Rattle.std.specs.Prelude.{Bool, true, false, not, ◌&&◌}
 use Rattle.std.specs.List.{list_all}
 use Rattle.tp_spec.specs.Lists.{is_empty}
 use Rattle.tp_spec.specs.Items.{is_durative_kind}
 use Rattle.tp_spec.specs.declared.problem.Action.{Action}
 use Rattle.tp_spec.specs.declared.problem.Cond.{Cond}
 use Rattle.tp_spec.specs.declared.problem.Cond.TheVariants.{Lit, Compare}
-use Rattle.tp_spec.specs.declared.problem.Effect.{Effect}
-use Rattle.tp_spec.specs.declared.problem.Effect.TheVariants.{Add, Delete, Change}
 use Rattle.tp_spec.specs.declared.problem.Problem.{Problem}
 
 abbrev pub is_literal : Cond → Bool
@@ -19,4 +17,6 @@ is_plain_action a = not (is_durative_kind a.kind) && list_all is_literal a.start
 
 -- every action is instant, and there are no fluents, no timed items and no comparisons
 abbrev pub is_plain : Problem → Bool
-is_plain p = is_empty p.fluents && is_empty p.timed && list_all is_plain_action p.actions && list_all is_literal p.goal
+is_plain p =
+    is_empty p.fluents && is_empty p.timed && list_all is_plain_action p.actions
+    && list_all is_literal p.goal

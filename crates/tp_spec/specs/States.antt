@@ -18,7 +18,8 @@ pub record State : Type 0 where
   pub fact : ℕ → Bool
   pub fluent : ℕ → Option ℤ
 
--- the state in which a problem begins
+-- The state in which a problem begins.
+-- PDDL 2.1, section 3. The code sets bits of a row and copies an array.
 abbrev pub initial : Problem → State
 initial p = record {
   fact = λ f. list_any (λ g. f == g) p.init;
@@ -49,9 +50,10 @@ compares Equal m n = int_eq m n
 compares MoreEq m n = int_le n m
 compares More m n = int_lt n m
 
--- Whether a condition holds: a literal by membership, a comparison where both sides are defined and compare so.
--- PDDL 2.1, section 3.
+-- Whether a condition holds: a literal by membership, a comparison where both sides are defined and
+-- compare so. PDDL 2.1, section 3. The code reads a bit, and two numbers of the array.
 abbrev pub holds : State → Cond → Bool
 holds s (Lit fact true) = s.fact fact
 holds s (Lit fact false) = not (s.fact fact)
-holds s (Compare op left right) = some_and (of_both (compares op) (value s left) (value s right)) (λ b. b)
+holds s (Compare op left right) =
+    some_and (of_both (compares op) (value s left) (value s right)) (λ b. b)

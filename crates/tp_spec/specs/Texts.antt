@@ -1,8 +1,8 @@
 -- What is printed: acts, commands, plans and results.
-use Rattle.std.specs.Prelude.{ℕ, ◌+◌, ◌/◌, ◌%◌, Bool, true, false, ◌==◌, List, [], ◌∷◌, ◌++◌, Option, Some, None, codes, decimal, if◌then◌else◌, slice_get, drop}
+use Rattle.std.specs.Prelude.{ℕ, ◌+◌, ◌/◌, ◌%◌, ◌==◌, List, [], ◌∷◌, ◌++◌, codes, decimal, if◌then◌else◌, slice_get, drop}
 use Rattle.std.specs.List.{flat_map}
 use Rattle.tp_spec.specs.declared.event.Event.{Event}
-use Rattle.tp_spec.specs.declared.event.Event.TheVariants.{Tick, Drop, Dispatch, Take, Expand, Publish, Limit, Exhaust, Halt}
+use Rattle.tp_spec.specs.declared.event.Event.TheVariants.{Dispatch, Publish, Limit, Exhaust, Halt}
 use Rattle.tp_spec.specs.declared.event.Cause.{Cause}
 use Rattle.tp_spec.specs.declared.event.Cause.TheVariants.{Out, Script, Memory}
 use Rattle.tp_spec.specs.declared.plan.Plan.{Plan}
@@ -11,9 +11,12 @@ use Rattle.tp_spec.specs.declared.problem.Problem.{Problem}
 use Rattle.tp_spec.specs.Lists.{part_of}
 use Rattle.tp_spec.specs.Items.{is_durative}
 
--- a tick in the problem's unit of time: `7`, or at scale 100 `7.05`; the digits of 100 + 5 without their first
+-- a tick in the problem's unit of time: `7`, or at scale 100 `7.05`; the digits of 100 + 5 without
+-- their first
 abbrev pub tick_text : ℕ → ℕ → List ℕ
-tick_text scale t = decimal (t / scale) ++ (if scale == 1 then [] else codes "." ++ drop 1 (decimal (scale + t % scale)))
+tick_text scale t =
+    decimal (t / scale)
+    ++ (if scale == 1 then [] else codes "." ++ drop 1 (decimal (scale + t % scale)))
 
 abbrev pub name_text : Problem → ℕ → List ℕ
 name_text p a = part_of (slice_get p.actions a) (λ x. x.name)
@@ -22,7 +25,8 @@ name_text p a = part_of (slice_get p.actions a) (λ x. x.name)
 abbrev pub act_text : Problem → Timed → List ℕ
 act_text p x =
     tick_text p.scale x.start ++ codes ": (" ++ name_text p x.action ++ codes ")"
-    ++ (if is_durative p x.action then codes " [" ++ tick_text p.scale x.length ++ codes "]" else [])
+    ++ (if is_durative p x.action then codes " [" ++ tick_text p.scale x.length ++ codes "]"
+    else [])
 
 abbrev pub command_text : Problem → Timed → List ℕ
 command_text p x = codes "do " ++ act_text p x ++ codes "\n"

@@ -35,12 +35,15 @@ name_before a b = is_lt (slice_cmp nat_cmp a b)
 
 -- printable ASCII but for upper-case letters, parentheses and the semicolon
 abbrev pub is_name_byte : ℕ → Bool
-is_name_byte b = nat_le 33 b && nat_le b 126 && not (nat_le 65 b && nat_le b 90) && not (b == 40 || b == 41 || b == 59)
+is_name_byte b =
+    nat_le 33 b && nat_le b 126 && not (nat_le 65 b && nat_le b 90)
+    && not (b == 40 || b == 41 || b == 59)
 
 -- words with one space between them; behind a space, or at the start, a word has to come
 abbrev pub are_words : Bool → List ℕ → Bool
 are_words wanted [] = not wanted
-are_words wanted (b ∷ rest) = if b == 32 then not wanted && are_words true rest else is_name_byte b && are_words false rest
+are_words wanted (b ∷ rest) =
+    if b == 32 then not wanted && are_words true rest else is_name_byte b && are_words false rest
 
 abbrev pub is_name : List ℕ → Bool
 is_name text = are_words true text
@@ -113,7 +116,8 @@ is_kind (Durative least most) a = nat_le 1 least && nat_le least most && nat_le 
 
 abbrev pub is_action : ℕ → ℕ → Action → Bool
 is_action f n a = is_name a.name && is_kind a.kind a
-    && list_all (is_cond f n) a.start_conds && list_all (is_cond f n) a.all_conds && list_all (is_cond f n) a.end_conds
+    && list_all (is_cond f n) a.start_conds && list_all (is_cond f n) a.all_conds
+    && list_all (is_cond f n) a.end_conds
     && are_effects f n a.start_effects && are_effects f n a.end_effects
 
 -- at least one literal, the facts of each kind rising, none both true and false
@@ -123,19 +127,24 @@ is_timed f t = not (is_empty t.adds && is_empty t.deletes)
     && each_next nat_lt t.adds && each_next nat_lt t.deletes
     && list_all (λ x. not (list_any (λ y. x == y) t.deletes)) t.adds
 
--- The rules of the canonical ground text, one by one, the ranges of its numbers among them: what each
--- `Problem` keeps.
--- PDDL 2.1, section 2, grounded; the limits, the order of names and the separation into ticks are
--- this project's own.
+-- The rules of the canonical ground text, one by one, the ranges of its numbers among them: what
+-- each `Problem` keeps. PDDL 2.1, section 2, grounded; the limits, the order of names and the
+-- separation into ticks are this project's own.
 pub record IsWellFormed (p : Ground) : Type 0 where
   pub scaled : IsTrue (p.scale == 1 || p.scale == 10 || p.scale == 100 || p.scale == 1000)
-  pub fact_names : IsTrue (nat_le (length p.facts) 4096 && list_all is_name p.facts && each_next name_before p.facts)
-  pub fluent_names : IsTrue (nat_le (length p.fluents) 256 && list_all is_name p.fluents && each_next name_before p.fluents)
-  pub acting : IsTrue (nat_le (length p.actions) 4096 && list_all (is_action (length p.facts) (length p.fluents)) p.actions)
+  pub fact_names : IsTrue (nat_le (length p.facts) 4096 && list_all is_name p.facts
+      && each_next name_before p.facts)
+  pub fluent_names : IsTrue (nat_le (length p.fluents) 256 && list_all is_name p.fluents
+      && each_next name_before p.fluents)
+  pub acting : IsTrue (nat_le (length p.actions) 4096
+      && list_all (is_action (length p.facts) (length p.fluents)) p.actions)
   pub told_apart : IsTrue (each_pair (λ a b. not (bytes_eq a.name b.name)) p.actions)
-  pub timing : IsTrue (nat_le (length p.timed) 256 && list_all (is_timed (length p.facts)) p.timed && each_next (λ s t. nat_lt s.tick t.tick) p.timed)
+  pub timing : IsTrue (nat_le (length p.timed) 256 && list_all (is_timed (length p.facts)) p.timed
+      && each_next (λ s t. nat_lt s.tick t.tick) p.timed)
   pub ticks_fit : IsTrue (list_all (λ t. nat_lt t.tick (2 ^ 64)) p.timed)
-  pub starting : IsTrue (list_all (λ f. nat_lt f (length p.facts)) p.init && each_next nat_lt p.init)
+  pub starting : IsTrue (list_all (λ f. nat_lt f (length p.facts)) p.init
+      && each_next nat_lt p.init)
   pub valued : length p.values ≡ length p.fluents
   pub values_fit : IsTrue (list_all is_value p.values)
-  pub aiming : IsTrue (nat_lt (length p.goal) (2 ^ 31) && list_all (is_cond (length p.facts) (length p.fluents)) p.goal)
+  pub aiming : IsTrue (nat_lt (length p.goal) (2 ^ 31)
+      && list_all (is_cond (length p.facts) (length p.fluents)) p.goal)

@@ -1,7 +1,8 @@
 use crate::list::List;
 use crate::plan::{Mark, Plan, Timed};
 
-/// Why a run was halted with no outcome of the search: the output failed, the script ended, or memory was refused.
+/// Why a run was halted with no outcome of the search: the output failed, the script ended, or
+/// memory was refused.
 #[derive(Clone, Copy, Debug, PartialEq, Eq)]
 pub enum Cause {
     Out,

@@ -5,8 +5,8 @@ use crate::list::NoMemory;
 use std::alloc::AllocError;
 use thiserror::Error;
 
-/// Why a text of lines, such as a ground text or a trace, is not read: its first faulty line, from 1
-/// (one past the last line where the text breaks off), or want of memory.
+/// Why a text of lines, such as a ground text or a trace, is not read: its first faulty line, from
+/// 1 (one past the last line where the text breaks off), or want of memory.
 #[derive(Clone, Copy, Debug, PartialEq, Eq, Error)]
 pub enum LineFault {
     /// No text of the format begins with the lines up to this one.

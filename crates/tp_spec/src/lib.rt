@@ -2,6 +2,7 @@
 #![tactic(auto)]
 
 mod event;
+mod examples;
 mod expr;
 mod fault;
 mod list;
@@ -9,6 +10,10 @@ mod plan;
 mod problem;
 
 pub use event::{Cause, Event};
+pub use examples::{
+    choices, courses, events, interference, items, legal_events, lists, no_schedules, plans,
+    schedules, states, turns, words,
+};
 pub use expr::Expr;
 pub use fault::LineFault;
 pub use list::{List, Name, NoMemory};

@@ -1,7 +1,8 @@
 use crate::list::List;
 
-/// What a run is held to: the most acts of a plan, the last tick of a plan, how many ticks before its latest start an
-/// act is committed, and the most ids that the search gives to nodes, the root's counted.
+/// What a run is held to: the most acts of a plan, the last tick of a plan, how many ticks before
+/// its latest start an act is committed, and the most ids that the search gives to nodes, the
+/// root's counted.
 #[derive(Clone, Copy, Debug, PartialEq, Eq)]
 pub struct Limits {
     pub actions: u32,
@@ -10,8 +11,8 @@ pub struct Limits {
     pub nodes: u32,
 }
 
-/// An act of a plan: an index into the problem's actions, its start tick, and its length in ticks (0 of an instant
-/// action).
+/// An act of a plan: an index into the problem's actions, its start tick, and its length in ticks
+/// (0 of an instant action).
 #[derive(Clone, Copy, Debug, PartialEq, Eq)]
 pub struct Timed {
     pub action: u32,
@@ -26,9 +27,9 @@ pub struct Plan {
     pub end: u64,
 }
 
-/// What may happen at a tick: a timed item, the end of a durative action, or the start of an action, each by its
-/// index in the problem. Their order is the item order: timed items, ends, starts, each kind by its
-/// number.
+/// What may happen at a tick: a timed item, the end of a durative action, or the start of an
+/// action, each by its index in the problem. Their order is the item order: timed items, ends,
+/// starts, each kind by its number.
 ///
 /// The snap actions of PDDL 2.1, section 5; the timed initial literals of PDDL 2.2.
 #[derive(Clone, Copy, Debug, PartialEq, Eq, PartialOrd, Ord)]
@@ -38,7 +39,8 @@ pub enum Item {
     Start(u32),
 }
 
-/// One mark of a word: an item, and whether it opens a group of its own or joins the group before it.
+/// One mark of a word: an item, and whether it opens a group of its own or joins the group before
+/// it.
 #[derive(Clone, Copy, Debug, PartialEq, Eq)]
 pub struct Mark {
     pub fresh: bool,

@@ -48,8 +48,8 @@ pub enum Kind {
     Durative { least: u64, most: u64 },
 }
 
-/// A ground action, with what is asked before its start, while it runs and before its end, and what its start and its
-/// end do. An instant action has a start alone.
+/// A ground action, with what is asked before its start, while it runs and before its end, and what
+/// its start and its end do. An instant action has a start alone.
 ///
 /// PDDL 2.1, section 5 (durative actions with discretised effects).
 #[derive(Drop)]
@@ -73,9 +73,9 @@ pub struct TimedItem {
     pub deletes: List<u32>,
 }
 
-/// A ground problem that meets all rules of the canonical ground text, as `IsWellFormed` says. Conditions and effects
-/// name facts, fluents and actions by their indices; `init` lists the facts that are true at the start, `values` the
-/// value of each fluent at the start, or none.
+/// A ground problem that meets all rules of the canonical ground text, as `IsWellFormed` says.
+/// Conditions and effects name facts, fluents and actions by their indices; `init` lists the facts
+/// that are true at the start, `values` the value of each fluent at the start, or none.
 #[derive(Drop)]
 pub struct Problem {
     pub scale: u32,
@@ -97,14 +97,34 @@ impl Model for Problem {
 
     ghost coded = { Prim.hlevel (codes, expr.the_row.coded) };
 
-    ghost view = { λ p. record { scale = p.scale; facts = p.facts; fluents = p.fluents; actions = p.actions; timed = p.timed; init = p.init; values = p.values; goal = p.goal } };
+    ghost view = { λ p. record {
+      scale = p.scale;
+      facts = p.facts;
+      fluents = p.fluents;
+      actions =
+          p.actions;
+      timed = p.timed;
+      init = p.init;
+      values = p.values;
+      goal = p.goal;
+    } };
 
-    ghost invariant = { λ p. IsWellFormed (record { scale = p.scale; facts = p.facts; fluents = p.fluents; actions = p.actions; timed = p.timed; init = p.init; values = p.values; goal = p.goal }) };
+    ghost invariant = { λ p. IsWellFormed (record {
+      scale = p.scale;
+      facts = p.facts;
+      fluents = p.fluents;
+      actions = p.actions;
+      timed =
+          p.timed;
+      init = p.init;
+      values = p.values;
+      goal = p.goal;
+    }) };
 }
 
 impl Problem {
-    /// Each problem keeps the rules of the canonical ground text. A proof learns this by itself only
-    /// where a field is read, else by this call, which does nothing.
+    /// Each problem keeps the rules of the canonical ground text. A proof learns this by itself
+    /// only where a field is read, else by this call, which does nothing.
     pub fn keeps_the_rules(&self)
         ensures { IsWellFormed self.now }
     {
@@ -125,8 +145,8 @@ impl Problem {
         self.timed.as_slice().get(number as usize)
     }
 
-    /// The conditions that are written for an item: of a timed item none, of the start or the end of
-    /// an action those before it; none for a number that the problem does not have.
+    /// The conditions that are written for an item: of a timed item none, of the start or the end
+    /// of an action those before it; none for a number that the problem does not have.
     pub fn conditions(&self, item: Item) -> &[Cond]
         ensures { result.now ≡ conditions self.now item }
     {

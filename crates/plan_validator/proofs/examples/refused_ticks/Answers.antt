@@ -10,8 +10,9 @@ use Rattle.tp_spec.specs.Courses.{happening, Passes}
 use Rattle.tp_spec.specs.Items.{effects_of, next, fits}
 use Rattle.tp_spec.specs.States.{State, initial, value, value_at, of_both}
 use Rattle.tp_laws.specs.Examples.{gated, tank, truth, act, lamp}
-use Rattle.tp_laws.proofs.Ticks.{EachTick, each_tick}
+use Rattle.tp_spec.proofs.Ticks.{EachTick, each_tick}
 use Rattle.plan_validator.proofs.examples.refused_ticks.Goals as goal
+use Rattle.tp_spec.proofs.Leaves.{value_number}
 
 -- each tick below one
 below : (P : ℕ → Type 0) (n : ℕ) → EachTick P n → (t : ℕ) → t < suc n → P t
@@ -131,9 +132,6 @@ returns-clause-goal c = record {
   fault = record { state = reached lamp [] 1; at_end = refl; first = refl };
 }
 
-value-Number : (s : State) (n : ℤ) → value s (Number n) ≡ Some n
-value-Number s n = ap (value s) (sym (rolls-Number n)) ∙ fold-roll-Expr (Option ℤ) (value_at s) (Expr-F.Number n)
-
 abbrev full : Problem
 full = tank (pos (2 ^ 63 - 1))
 
@@ -156,9 +154,9 @@ returns-clause-overflow c = record {
       apart = refl;
       state = at_end;
       before = refl;
-      met = ap (λ v. (true && ((true && is_some v) && true)) && true) (value-Number at_end (pos 1));
-      none = ap (λ v. if fits (of_both (λ m n. m +ℤ n) (Some (pos (2 ^ 63 - 1))) v) && true then Some (next at_end (effects_of full (End 0 ∷ []))) else None) (value-Number at_end (pos 1));
-      wide = ap (λ v. not (fits (of_both (λ m n. m +ℤ n) (Some (pos (2 ^ 63 - 1))) v))) (value-Number at_end (pos 1));
+      met = ap (λ v. (true && ((true && is_some v) && true)) && true) (value_number at_end (pos 1));
+      none = ap (λ v. if fits (of_both (λ m n. m +ℤ n) (Some (pos (2 ^ 63 - 1))) v) && true then Some (next at_end (effects_of full (End 0 ∷ []))) else None) (value_number at_end (pos 1));
+      wide = ap (λ v. not (fits (of_both (λ m n. m +ℤ n) (Some (pos (2 ^ 63 - 1))) v))) (value_number at_end (pos 1));
       first = λ x less. absurd (omega (arith, less));
     },
   );

@@ -1,7 +1,7 @@
 use Rattle.std.proofs.Common.{refl, arith, [], ◌∷◌}
 use Rattle.tp_spec.specs.Courses.{Passes}
 use Rattle.tp_laws.specs.Examples.{arch, act}
-use Rattle.tp_laws.proofs.Ticks.{each_tick}
+use Rattle.tp_spec.proofs.Ticks.{each_tick}
 use Rattle.tp_laws.proofs.examples.invariants_given_together.Goals as goal
 
 pub returns-clause-both : goal.returns-clause-both

@@ -1,7 +1,7 @@
 use Rattle.std.proofs.Common.{refl, arith, [], ◌∷◌}
 use Rattle.tp_spec.specs.Courses.{Passes}
 use Rattle.tp_laws.specs.Examples.{gated, truth, act}
-use Rattle.tp_laws.proofs.Ticks.{each_tick}
+use Rattle.tp_spec.proofs.Ticks.{each_tick}
 use Rattle.tp_laws.proofs.examples.unsafe_plans.Goals as goal
 
 pub returns-clause-in_time : goal.returns-clause-in_time
