@@ -19,7 +19,7 @@ Counts seen before = (a : ℕ) → seen a ≡ count_by (λ y. y.action == a) bef
 pub counts_none : Counts (λ a. 0) []
 counts_none a = refl
 
-counts_more : (seen : ℕ → ℕ) (before : List Act) (x : Act) → Counts seen before → Counts (bumped x.action seen) (before ++ x ∷ [])
+pub counts_more : (seen : ℕ → ℕ) (before : List Act) (x : Act) → Counts seen before → Counts (bumped x.action seen) (before ++ x ∷ [])
 counts_more seen before x h a =
     let e = sum_by-append (λ y. cond (y.action == a) 1 0) before (x ∷ []) in
     by_test (eqb x.action a) e
