@@ -14,3 +14,9 @@ pub mod EarlyCover
 pub mod EarlyTold
 pub mod EarlyPlans
 pub mod EarlyMarkLemmas
+pub mod ClockKth
+pub mod ClockOpens
+pub mod ClockCandidates
+pub mod ClockLaws
+pub mod ClockCommits
+pub mod ClockActs

@@ -2,10 +2,12 @@
 //! function here has no body: its contract is the law.
 #![tactic(auto)]
 
+mod clocks;
 mod early;
 mod examples;
 mod laws;
 
+pub use clocks::{acts_of_sound_words, earlier_clocks, one_tick_tells};
 pub use early::{covered_plans, live_marks, live_words, plain_problems, plans_of_words};
 pub use examples::{
     busy_histories, goal_at_start, invariants_given_together, printed_texts, spelled_words,

@@ -1,0 +1,5 @@
+pub mod Pieces
+pub mod Acts
+pub mod Kept
+pub mod Scheduled
+pub mod Solutions
