@@ -15,3 +15,5 @@ pub mod EarlyCover
 pub mod EarlyTold
 pub mod EarlyPlans
 pub mod EarlyMarkLemmas
+pub mod Runs
+pub mod StartMarks

@@ -4,11 +4,15 @@
 
 mod early;
 mod examples;
+mod histories;
 mod laws;
+mod starts;
 
 pub use early::{covered_plans, live_marks, live_words, plain_problems, plans_of_words};
 pub use examples::{
     busy_histories, goal_at_start, invariants_given_together, printed_texts, spelled_words,
     states_after, unsafe_plans,
 };
+pub use histories::{histories_in_parts, states_of_runs, takes_of_nodes};
 pub use laws::{end_of_word, nothing_happens, order_of_items, states_read};
+pub use starts::live_starts;
