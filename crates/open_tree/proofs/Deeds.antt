@@ -25,7 +25,8 @@ use Rattle.open_tree.specs.Views.{NodeView}
 use Rattle.open_tree.specs.Nodes.{RankedNode, FrontierView, IsLeastOpen, open_node, no_later, node_of, held_by, is_taker}
 use Rattle.open_tree.specs.Nodes as kept
 use Rattle.open_tree.specs.Stands.{IsFrontierOf, plain_node}
-use Rattle.open_tree.proofs.Runs.{IsTree, in-filter, map-in, now-possible, then-possible, now-live, then-live}
+use Rattle.tp_laws.specs.Histories.{IsTree}
+use Rattle.tp_laws.proofs.Runs.{in-filter, map-in, now-possible, then-possible, now-live, then-live}
 
 -- the best of some nodes
 

@@ -13,21 +13,8 @@ use Rattle.tp_laws.specs.Early.{IsPlain}
 use Rattle.tp_laws.proofs.EarlyLists.{each-in, each-true}
 use Rattle.open_tree.specs.Views.{JobView}
 use Rattle.open_tree.specs.Jobs.{IsJobOf}
-use Rattle.open_tree.proofs.Runs.{IsTree, tree-run, tree-first, differ, is_below, in-filter, in-append, in-map, in-children, taken-id}
-
--- histories in parts
-
-pub end-append : (l : Limits) (m : Machine) (es fs : List Event) → end_of l m (es ++ fs) ≡ end_of l (end_of l m es) fs
-end-append l m [] fs = refl
-end-append l m (e ∷ es) fs = end-append l (step l m e) es fs
-
-pub legal-append : (p : Problem) (l : Limits) (m : Machine) (es fs : List Event) → AreLegal p l m es → AreLegal p l (end_of l m es) fs → AreLegal p l m (es ++ fs)
-legal-append p l m [] fs h k = k
-legal-append p l m (e ∷ es) fs h k = (h.0, legal-append p l (step l m e) es fs h.1 k)
-
-pub legal-parts : (p : Problem) (l : Limits) (m : Machine) (es fs : List Event) → AreLegal p l m (es ++ fs) → AreLegal p l m es × AreLegal p l (end_of l m es) fs
-legal-parts p l m [] fs h = (tt, h)
-legal-parts p l m (e ∷ es) fs h = let r = legal-parts p l (step l m e) es fs h.1 in ((h.0, r.0), r.1)
+use Rattle.tp_laws.specs.Histories.{IsTree, is_below}
+use Rattle.tp_laws.proofs.Runs.{end-append, legal-parts, tree-run, tree-first, differ, in-filter, in-append, in-map, in-children, taken-id}
 
 -- nodes of one id are one node
 

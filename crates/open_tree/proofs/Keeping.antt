@@ -10,12 +10,30 @@ use Rattle.tp_spec.specs.Machine.{readings}
 use Rattle.tp_world.specs.Counts.{one_more}
 use Rattle.tp_world.specs.Readings.{reading_at}
 use Rattle.open_tree.specs.Views.{SproutsView}
-use Rattle.open_tree.specs.Turns.{IsTurn, IsClocked, has_outcome, is_outcome, event_list, HoldsNone}
+use Rattle.open_tree.specs.Turns.{IsTurn, IsClocked, IsTold, has_outcome, is_outcome, event_list, HoldsNone}
 use Rattle.open_tree.specs.Answers.{IsAnswered, is_over_answer}
-use Rattle.open_tree.specs.Keeps.{Keeps}
+use Rattle.open_tree.specs.Keeps.{TreeParts, Keeps}
 use Rattle.open_tree.specs.declared.job.Merged.{Merged}
 use Rattle.open_tree.specs.declared.job.Merged.TheVariants.{Done, Stale, Over}
 use Rattle.open_tree.proofs.Clocks.{latest_turn, latest_halt, latest_stop, clocked_turn, clocked_halt, clocked_stop}
+
+-- the parts of a tree, by position
+abbrev pub parts : (len capacity rate scale began count first last : ℕ) (opened given : Option (List ℕ)) (history : List Event) (over spare : Bool) → TreeParts
+parts len capacity rate scale began count first last opened given history over spare = record {
+  len = len;
+  capacity = capacity;
+  rate = rate;
+  scale = scale;
+  began = began;
+  count = count;
+  first = first;
+  last = last;
+  opened = opened;
+  given = given;
+  history = history;
+  over = over;
+  spare = spare;
+}
 
 holds_none : (deed end : Option Event) → HoldsNone deed → HoldsNone end → readings (event_list deed ++ event_list end) ≡ []
 holds_none None None h k = refl
@@ -37,10 +55,10 @@ outcome_turn {old} {mid} {new} rest actor r none e is =
     ap has_outcome (is ∙ ap (λ x. x ++ Tick actor r ∷ rest) e) ∙ list_any-append is_outcome old (Tick actor r ∷ rest) ∙ ap (λ b. b || has_outcome rest) none
 
 pub keeps_turn : {len cap len' cap' rate rate' scale b n m first last last' : ℕ} {told now now' : Option (List ℕ)} {old mid new : List Event} {over spare over' : Bool}
-    (deed end : Option Event) (actor r : ℕ) → over ≡ false → Keeps len cap rate scale b n first last told now old over spare → HoldsNone deed → HoldsNone end
+    (deed end : Option Event) (actor r : ℕ) → over ≡ false → Keeps (parts len cap rate scale b n first last told now old over spare) → HoldsNone deed → HoldsNone end
     → rate' ≡ rate → m ≡ one_more n → now' ≡ now → IfSome now (λ xs. r ≡ reading_at xs n) → last' ≡ r
     → mid ≡ old → new ≡ mid ++ Tick actor r ∷ (event_list deed ++ event_list end) → len' < cap'
-    → over' ≡ has_outcome (event_list deed ++ event_list end) → Keeps len' cap' rate' scale b m first last' told now' new over' spare
+    → over' ≡ has_outcome (event_list deed ++ event_list end) → Keeps (parts len' cap' rate' scale b m first last' told now' new over' spare)
 keeps_turn {b = b} {n = n} {m = m} {told = told} {now = now} {now' = now'} {old = old} {new = new} {spare = spare} deed end actor r stands k h h' rated more same reading latest e is room answer =
     let z : spare ≡ false = k.exact stands in record {
       room = λ _. room;
@@ -53,8 +71,8 @@ keeps_turn {b = b} {n = n} {m = m} {told = told} {now = now} {now' = now'} {old 
     }
 
 pub keeps_halt : {len cap len' cap' rate rate' scale b n m first last last' : ℕ} {told now now' : Option (List ℕ)} {old mid new : List Event} {over spare : Bool}
-    → over ≡ false → Keeps len cap rate scale b n first last told now old over spare
-    → rate' ≡ rate → m ≡ one_more n → now' ≡ now → mid ≡ old → new ≡ mid ++ Halt Memory ∷ [] → Keeps len' cap' rate' scale b m first last' told now' new true true
+    → over ≡ false → Keeps (parts len cap rate scale b n first last told now old over spare)
+    → rate' ≡ rate → m ≡ one_more n → now' ≡ now → mid ≡ old → new ≡ mid ++ Halt Memory ∷ [] → Keeps (parts len' cap' rate' scale b m first last' told now' new true true)
 keeps_halt {b = b} {n = n} {told = told} {now = now} {old = old} {new = new} {spare = spare} stands k rated more same e is =
     let whole : new ≡ old ++ Halt Memory ∷ [] = is ∙ ap (λ x. x ++ Halt Memory ∷ []) e in record {
       room = λ t. absurd (false≢true (sym t));
@@ -73,7 +91,7 @@ answer_over actor sprouts deed end Stale a = sym (λ i. has_outcome (event_list 
 answer_over actor sprouts deed end Over a = sym a
 
 pub keeps_stop : {len cap len' cap' rate scale b n first last : ℕ} {told now : Option (List ℕ)} {old new : List Event} {over spare : Bool}
-    (cause : Cause) → over ≡ false → Keeps len cap rate scale b n first last told now old over spare → new ≡ old ++ Halt cause ∷ [] → Keeps len' cap' rate scale b n first last told now new true spare
+    (cause : Cause) → over ≡ false → Keeps (parts len cap rate scale b n first last told now old over spare) → new ≡ old ++ Halt cause ∷ [] → Keeps (parts len' cap' rate scale b n first last told now new true spare)
 keeps_stop {old = old} cause stands k is = record {
   room = λ t. absurd (false≢true (sym t));
   rated = k.rated;
@@ -84,5 +102,9 @@ keeps_stop {old = old} cause stands k is = record {
 }
 
 -- no outcome stands
-pub none_stands : {len cap rate scale b n first last : ℕ} {told now : Option (List ℕ)} {old : List Event} {over spare : Bool} → Keeps len cap rate scale b n first last told now old over spare → over ≡ false → has_outcome old ≡ false
+pub none_stands : {len cap rate scale b n first last : ℕ} {told now : Option (List ℕ)} {old : List Event} {over spare : Bool} → Keeps (parts len cap rate scale b n first last told now old over spare) → over ≡ false → has_outcome old ≡ false
 none_stands k stands = sym k.standing ∙ stands
+
+-- what a tree keeps says how its history and its clock belong together
+pub told_of : {len cap rate scale b n first last : ℕ} {told now : Option (List ℕ)} {old : List Event} {over spare : Bool} → Keeps (parts len cap rate scale b n first last told now old over spare) → IsTold b n first last told old
+told_of {spare = spare} k = record { spare = spare; counted = k.clocked.counted; latest = k.recent.latest; behind = k.recent.behind; next = k.clocked.next }

@@ -6,7 +6,6 @@ pub mod FactBits
 pub mod RowSets
 pub mod WalkSteps
 pub mod Unmet
-pub mod Runs
 pub mod Standing
 pub mod Held
 pub mod LiveMarks

@@ -26,7 +26,8 @@ use Rattle.open_tree.specs.Stands.{Stands, IsFrontierOf, plain_node}
 use Rattle.open_tree.specs.Steps.{IsReady, IsPublication, IsLimit, IsExpansion, IsStep, IsMove, DoesStep}
 use Rattle.open_tree.specs.Turns.{is_outcome, has_outcome, event_list}
 use Rattle.open_tree.specs.Views.{NodeView, SproutsView, TreeView}
-use Rattle.open_tree.proofs.Runs.{IsTree, tree-step, map-in}
+use Rattle.tp_laws.specs.Histories.{IsTree}
+use Rattle.tp_laws.proofs.Runs.{tree-step, map-in}
 use Rattle.open_tree.proofs.Held.{JobStands, job-stands}
 use Rattle.open_tree.proofs.LiveMarks.{sprouts-live, marks-follow, marks-few}
 use Rattle.open_tree.proofs.Deeds.{IsFound, found-node, expand-legal, limit-legal, publish-legal, exhaust-legal, quiet-in}

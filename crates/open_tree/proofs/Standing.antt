@@ -20,8 +20,8 @@ use Rattle.tp_laws.specs.Early.{IsPlain}
 use Rattle.open_tree.specs.Stands.{Stands, CoversAll, IsFrontierOf, IsRoot, plain_node}
 use Rattle.open_tree.specs.Turns.{is_outcome, has_outcome}
 use Rattle.tp_laws.proofs.EarlyLists.{filter-map}
-use Rattle.open_tree.proofs.Runs.{IsTree, tree-first, tree-of, tree-step, then-possible, in-filter, in-append, in-map}
-use Rattle.open_tree.proofs.Held.{end-append, legal-append}
+use Rattle.tp_laws.specs.Histories.{IsTree}
+use Rattle.tp_laws.proofs.Runs.{tree-first, tree-of, tree-step, then-possible, in-filter, in-append, in-map, end-append, legal-append}
 use Rattle.open_tree.proofs.Deeds.{settled-between, ticked, quiet-in}
 
 -- the state says whether an outcome stands

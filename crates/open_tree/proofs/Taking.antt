@@ -16,8 +16,8 @@ use Rattle.open_tree.specs.Nodes as kept
 use Rattle.open_tree.specs.Answers.{GivesJob, GivesNothing}
 use Rattle.open_tree.specs.Stands.{Stands, plain_node}
 use Rattle.open_tree.specs.Turns.{has_outcome}
-use Rattle.open_tree.proofs.Runs.{IsTree, tree-step, in-filter, map-in}
-use Rattle.open_tree.proofs.Held.{end-append}
+use Rattle.tp_laws.specs.Histories.{IsTree}
+use Rattle.tp_laws.proofs.Runs.{tree-step, in-filter, map-in, end-append}
 use Rattle.open_tree.proofs.Deeds.{take-legal, least-best, quiet-in}
 use Rattle.open_tree.proofs.Standing.{ticking, tree-ticking, may-act, frontier-ticking, frontier-take, stands-more, between}
 

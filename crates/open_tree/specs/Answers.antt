@@ -17,9 +17,10 @@ use Rattle.open_tree.specs.declared.job.Merged.{Merged}
 use Rattle.open_tree.specs.declared.job.Merged.TheVariants as merged
 use Rattle.open_tree.specs.declared.tree.Move.{Move}
 
--- the turn took the job's node: a Tick and a Take; the job is of this problem, these limits and this history, its word is
--- live, and its rank is the word's
-pub record GivesJob (p : Problem) (l : Limits) (old new : List Event) (actor reading : ℕ) (j : JobView) : Type 0 where
+-- the turn took the job's node: a Tick and a Take; the job is of this problem, these limits and
+-- this history, its word is live, and its rank is the word's
+pub record GivesJob (p : Problem) (l : Limits) (old new : List Event) (actor reading : ℕ)
+    (j : JobView) : Type 0 where
   pub events : new ≡ old ++ Tick actor reading ∷ Take actor j.id ∷ []
   pub problem : j.problem ≡ p
   pub limits : j.limits ≡ l
@@ -44,11 +45,13 @@ is_over_answer merged.Stale = false
 is_over_answer merged.Over = true
 
 -- a Tick alone, and the job's node had left the frontier
-pub record IsStale (l : Limits) (old new : List Event) (actor reading : ℕ) (sprouts : SproutsView) : Type 0 where
+pub record IsStale (l : Limits) (old new : List Event) (actor reading : ℕ) (sprouts : SproutsView) :
+    Type 0 where
   pub events : new ≡ old ++ Tick actor reading ∷ []
   pub left : IsTrue (not (list_any (λ n. n.id == sprouts.job.id) (state_of l old).nodes))
 
--- how a merge ends the search: its node was expanded and no node is left, or it was published, or it was the limit
+-- how a merge ends the search: its node was expanded and no node is left, or it was published, or
+-- it was the limit
 abbrev pub IsEnding : ℕ → SproutsView → List Event → Type 0
 IsEnding actor s events =
     (events ≡ Expand actor s.job.id s.marks ∷ Exhaust ∷ [])
@@ -56,22 +59,27 @@ IsEnding actor s events =
     ⊎ ((made : ℕ) × (events ≡ Limit actor s.job.id made (length s.marks) ∷ [])))
 
 -- a turn of a merge that ends the search
-pub record EndsSearch (old new : List Event) (actor reading : ℕ) (sprouts : SproutsView) : Type 0 where
+pub record EndsSearch (old new : List Event) (actor reading : ℕ) (sprouts : SproutsView)
+    : Type 0 where
   pub events : List Event
   pub grown : new ≡ old ++ Tick actor reading ∷ events
   pub ending : IsEnding actor sprouts events
   pub outcome : has_outcome new ≡ true
 
--- done comes with its Expand and no end; stale exactly where the node had left; over exactly where an outcome stands
+-- done comes with its Expand and no end; stale exactly where the node had left; over exactly where
+-- an outcome stands
 abbrev pub GivesMerged : Limits → List Event → List Event → ℕ → ℕ → SproutsView → Merged → Type 0
-GivesMerged l old new actor reading sprouts merged.Done = new ≡ old ++ Tick actor reading ∷ Expand actor sprouts.job.id sprouts.marks ∷ []
+GivesMerged l old new actor reading sprouts merged.Done =
+    new ≡ old ++ Tick actor reading ∷ Expand actor sprouts.job.id sprouts.marks ∷ []
 GivesMerged l old new actor reading sprouts merged.Stale = IsStale l old new actor reading sprouts
 GivesMerged l old new actor reading sprouts merged.Over = EndsSearch old new actor reading sprouts
 
 abbrev pub IsAnswered : ℕ → SproutsView → Option Event → Option Event → Merged → Type 0
-IsAnswered actor sprouts deed end merged.Done = (deed ≡ Some (Expand actor sprouts.job.id sprouts.marks)) × (end ≡ None)
+IsAnswered actor sprouts deed end merged.Done =
+    (deed ≡ Some (Expand actor sprouts.job.id sprouts.marks)) × (end ≡ None)
 IsAnswered actor sprouts deed end merged.Stale = (deed ≡ None) × (end ≡ None)
-IsAnswered actor sprouts deed end merged.Over = has_outcome (event_list deed ++ event_list end) ≡ true
+IsAnswered actor sprouts deed end merged.Over =
+    has_outcome (event_list deed ++ event_list end) ≡ true
 
 -- the events of a merge hold no reading, and the answer is theirs
 pub record MakesMove (actor : ℕ) (sprouts : SproutsView) (m : Move) : Type 0 where

@@ -7,8 +7,8 @@ use Rattle.tp_spec.specs.Machine.{Node, IsTaken, AreLiveMarks, state_of}
 use Rattle.open_tree.specs.Views.{JobView, SproutsView}
 use Rattle.open_tree.specs.JobViews.{view_of}
 
--- The history has a Take of the job's id by this actor; the job's word, clock and commitments are those of the state
--- after it.
+-- The history has a Take of the job's id by this actor; the job's word, clock and commitments are
+-- those of the state after it.
 pub record IsJobOf (l : Limits) (history : List Event) (actor : ℕ) (job : JobView) : Type 0 where
   pub front : List Event
   pub rest : List Event

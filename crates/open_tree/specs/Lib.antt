@@ -15,3 +15,4 @@ pub mod Stands
 pub mod Children
 pub mod Steps
 pub mod OneMore
+pub mod Laws

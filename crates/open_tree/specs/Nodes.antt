@@ -63,7 +63,8 @@ is_taker actor (Some a) = a == actor
 -- the node that stands there, where this actor took it
 abbrev pub held_by : ℕ → Option RankedNode → Option NodeView
 held_by actor None = None
-held_by actor (Some n) = if is_taker actor n.taker then Some (record { word = n.word; rank = n.rank }) else None
+held_by actor (Some n) =
+    if is_taker actor n.taker then Some (record { word = n.word; rank = n.rank }) else None
 
 -- whether a node stands there that somebody took
 abbrev pub is_held : Option RankedNode → Bool

@@ -34,19 +34,26 @@ pub record Takes (old new : FactRow) (set : ℕ → Bool) : Type 0 where
   pub wide : width new ≡ width old
   pub has : (f : ℕ) → has_fact new f ≡ (has_fact old f || (has_place (width old) f && set f))
 
--- what these conditions and effects ask and do, among the facts for which so many words have a place
-pub record AreRowsOf (rows : ActionRows) (words : ℕ) (conds : List Cond) (does : List Effect) : Type 0 where
+-- what these conditions and effects ask and do, among the facts for which so many words have a
+-- place
+pub record AreRowsOf (rows : ActionRows) (words : ℕ) (conds : List Cond) (does : List Effect) :
+    Type 0 where
   pub wanted : IsRowOf rows.wanted words (λ f. has_place words f && list_any (wants f) conds)
   pub unwanted : IsRowOf rows.unwanted words (λ f. has_place words f && list_any (forbids f) conds)
   pub adds : IsRowOf rows.adds words (λ f. has_place words f && list_any (adds f) does)
   pub deletes : IsRowOf rows.deletes words (λ f. has_place words f && list_any (deletes f) does)
 
--- the rows of an action: what its start's conditions want and do not want, what its start's effects add and delete
+-- the rows of an action: what its start's conditions want and do not want, what its start's effects
+-- add and delete
 pub record AreActionRows (p : Problem) (a : ℕ) (rows : ActionRows) : Type 0 where
-  pub wanted : IsRowOf rows.wanted (words_for (length p.facts)) (λ f. list_any (wants f) (conditions p (Start a)))
-  pub unwanted : IsRowOf rows.unwanted (words_for (length p.facts)) (λ f. list_any (forbids f) (conditions p (Start a)))
-  pub adds : IsRowOf rows.adds (words_for (length p.facts)) (λ f. list_any (adds f) (effects p (Start a)))
-  pub deletes : IsRowOf rows.deletes (words_for (length p.facts)) (λ f. list_any (deletes f) (effects p (Start a)))
+  pub wanted : IsRowOf rows.wanted (words_for (length p.facts))
+      (λ f. list_any (wants f) (conditions p (Start a)))
+  pub unwanted : IsRowOf rows.unwanted (words_for (length p.facts))
+      (λ f. list_any (forbids f) (conditions p (Start a)))
+  pub adds : IsRowOf rows.adds (words_for (length p.facts))
+      (λ f. list_any (adds f) (effects p (Start a)))
+  pub deletes : IsRowOf rows.deletes (words_for (length p.facts))
+      (λ f. list_any (deletes f) (effects p (Start a)))
 
 -- the rows have an added or a deleted fact in this set
 abbrev pub Changes : ActionRows → FactRow → Type 0
@@ -60,4 +67,5 @@ Asks rows facts = Share rows.wanted facts ⊎ Share rows.unwanted facts
 pub record AreTables (p : Problem) (tables : PlainActions) : Type 0 where
   pub facts : tables.facts ≡ length p.facts
   pub count : length tables.rows.items ≡ length p.actions
-  pub each : (a : ℕ) (rows : ActionRows) → slice_get tables.rows.items a ≡ Some rows → AreActionRows p a rows
+  pub each : (a : ℕ) (rows : ActionRows) → slice_get tables.rows.items a ≡ Some rows
+      → AreActionRows p a rows

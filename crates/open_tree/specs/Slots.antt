@@ -10,7 +10,8 @@ use Rattle.open_tree.specs.Nodes.{RankedNode, is_open}
 
 -- the node of a slot
 abbrev pub in_slot : ℕ → Slot → RankedNode
-in_slot id slot = record { id = id; word = slot.node.word; rank = slot.node.rank; taker = slot.taker }
+in_slot id slot =
+    record { id = id; word = slot.node.word; rank = slot.node.rank; taker = slot.taker }
 
 -- the nodes of slots, the first of which has this id
 abbrev pub nodes_from : ℕ → List (Option Slot) → List RankedNode
@@ -39,8 +40,10 @@ abbrev pub is_open_at : ℕ → ℕ → RankedNode → Bool
 is_open_at rank id n = is_open n && (n.rank == rank && n.id == id)
 
 -- the heap holds the rank and id of each open node, and no others; the standing nodes are counted
-pub record IsOrdered (slots : List (Option Slot)) (entries : List (Reverse Priority)) (standing : ℕ) : Type 0 where
+pub record IsOrdered (slots : List (Option Slot)) (entries : List (Reverse Priority)) (standing : ℕ)
+    : Type 0 where
   pub heap : IsHeap by_priority entries
-  pub ready : (rank id : ℕ) → how_many (is_entry rank id) entries ≡ how_many (is_open_at rank id) (nodes_from 0 slots)
+  pub ready : (rank id : ℕ)
+      → how_many (is_entry rank id) entries ≡ how_many (is_open_at rank id) (nodes_from 0 slots)
   pub counted : standing ≡ length (nodes_from 0 slots)
   pub few : length slots ≤ 2 ^ 32

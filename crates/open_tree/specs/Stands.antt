@@ -23,9 +23,10 @@ pub record IsFrontierOf (p : Problem) (f : FrontierView) (m : Machine) : Type 0 
   pub made : f.made ≡ m.made
   pub ranked : (n : RankedNode) → IsIn n f.nodes → n.rank ≡ rank p n.word
 
--- The problem is plain and the tables are its actions'; the history is a run that ends settled, and the frontier is
--- that of the state to which it leads.
-pub record Stands (p : Problem) (l : Limits) (rows : PlainActions) (f : FrontierView) (history : List Event) : Type 0 where
+-- The problem is plain and the tables are its actions'; the history is a run that ends settled, and
+-- the frontier is that of the state to which it leads.
+pub record Stands (p : Problem) (l : Limits) (rows : PlainActions) (f : FrontierView)
+    (history : List Event) : Type 0 where
   pub plain : IsPlain p
   pub tables : AreTables p rows
   pub whole : IsWholeRun p l history

@@ -22,24 +22,29 @@ use Rattle.open_tree.specs.Nodes.{FrontierView, node_of, held_by, without, open_
 use Rattle.open_tree.specs.PlainTables.{AreTables}
 use Rattle.open_tree.specs.Views.{NodeView}
 
--- The problem is plain and the tables are its actions'; where this actor took the node of this id, each of the marks may
--- follow its word; the ids given so far are in bounds, and the number of marks fits 32 bits.
-pub record IsReady (p : Problem) (limit : ℕ) (rows : PlainActions) (f : FrontierView) (actor id : ℕ) (marks : List Mark) : Type 0 where
+-- The problem is plain and the tables are its actions'; where this actor took the node of this id,
+-- each of the marks may follow its word; the ids given so far are in bounds, and the number of
+-- marks fits 32 bits.
+pub record IsReady (p : Problem) (limit : ℕ) (rows : PlainActions) (f : FrontierView) (actor id : ℕ)
+    (marks : List Mark) : Type 0 where
   pub plain : is_plain p ≡ true
   pub tables : AreTables p rows
-  pub follow : (n : NodeView) → held_by actor (node_of id f.nodes) ≡ Some n → IsTrue (list_all (may_follow p (progress p n.word)) marks)
+  pub follow : (n : NodeView) → held_by actor (node_of id f.nodes) ≡ Some n
+      → IsTrue (list_all (may_follow p (progress p n.word)) marks)
   pub few_made : f.made ≤ max 1 limit
   pub few_marks : length marks < 2 ^ 32
 
 -- the node that this actor took has no goal part left, and this is the plan of its word
-pub record IsPublication (p : Problem) (f : FrontierView) (actor id : ℕ) (plan : Plan) : Type 0 where
+pub record IsPublication (p : Problem) (f : FrontierView) (actor id : ℕ) (plan : Plan)
+    : Type 0 where
   pub node : NodeView
   pub held : held_by actor (node_of id f.nodes) ≡ Some node
   pub complete : node.rank ≡ 0
   pub is : plan ≡ plan_of p node.word consecutive
 
 -- the node has a goal part left, and with its marks there would be more ids than there may be
-pub record IsLimit (limit : ℕ) (f : FrontierView) (actor id : ℕ) (marks : List Mark) (made count : ℕ) : Type 0 where
+pub record IsLimit (limit : ℕ) (f : FrontierView) (actor id : ℕ) (marks : List Mark)
+    (made count : ℕ) : Type 0 where
   pub node : NodeView
   pub held : held_by actor (node_of id f.nodes) ≡ Some node
   pub incomplete : node.rank ≢ 0
@@ -48,19 +53,22 @@ pub record IsLimit (limit : ℕ) (f : FrontierView) (actor id : ℕ) (marks : Li
   pub counted : count ≡ length marks
 
 -- the node has a goal part left, and these are its children, for which there are ids
-pub record IsExpansion (p : Problem) (limit : ℕ) (f : FrontierView) (actor id : ℕ) (marks : List Mark) (children : List NodeView) : Type 0 where
+pub record IsExpansion (p : Problem) (limit : ℕ) (f : FrontierView) (actor id : ℕ)
+    (marks : List Mark) (children : List NodeView) : Type 0 where
   pub node : NodeView
   pub held : held_by actor (node_of id f.nodes) ≡ Some node
   pub incomplete : node.rank ≢ 0
   pub room : f.made + length marks ≤ limit
   pub are : children ≡ map (child_node p node.word) marks
 
--- a step is what the node of its id asks for; it is stale where this actor took no node of this id that still stands
+-- a step is what the node of its id asks for; it is stale where this actor took no node of this id
+-- that still stands
 abbrev pub IsStep : Problem → ℕ → FrontierView → ℕ → ℕ → List Mark → Step → Type 0
 IsStep p limit f actor id marks Stale = held_by actor (node_of id f.nodes) ≡ None
 IsStep p limit f actor id marks (Publish plan) = IsPublication p f actor id plan
 IsStep p limit f actor id marks (Limit made count) = IsLimit limit f actor id marks made count
-IsStep p limit f actor id marks (Expand children) = IsExpansion p limit f actor id marks children.items
+IsStep p limit f actor id marks (Expand children) =
+    IsExpansion p limit f actor id marks children.items
 
 -- a move of this deed, this end and this answer
 pub record IsMove (d e : Option Event) (a : Merged) (m : Move) : Type 0 where
@@ -69,14 +77,20 @@ pub record IsMove (d e : Option Event) (a : Merged) (m : Move) : Type 0 where
   pub answer : m.merged ≡ a
 
 -- the children stand in the node's place, and the search is exhausted where that leaves no node
-pub record Expands (actor id : ℕ) (marks : List Mark) (old new : FrontierView) (children : List NodeView) (m : Move) : Type 0 where
+pub record Expands (actor id : ℕ) (marks : List Mark) (old new : FrontierView)
+    (children : List NodeView) (m : Move) : Type 0 where
   pub nodes : new.nodes ≡ without id old.nodes ++ open_from old.made children
   pub made : new.made ≡ old.made + length children
-  pub move : IsMove (Some (event.Expand actor id marks)) (if is_empty new.nodes then Some event.Exhaust else None) (if is_empty new.nodes then merged.Over else merged.Done) m
+  pub move : IsMove (Some (event.Expand actor id marks))
+      (if is_empty new.nodes then Some event.Exhaust else None)
+      (if is_empty new.nodes then merged.Over else merged.Done) m
 
 -- what a step does to the frontier, and the events of it
 abbrev pub DoesStep : ℕ → ℕ → List Mark → FrontierView → FrontierView → Move → Step → Type 0
 DoesStep actor id marks old new m Stale = (new ≡ old) × IsMove None None merged.Stale m
-DoesStep actor id marks old new m (Publish plan) = (new ≡ old) × IsMove (Some (event.Publish actor id plan)) None merged.Over m
-DoesStep actor id marks old new m (Limit made count) = (new ≡ old) × IsMove (Some (event.Limit actor id made count)) None merged.Over m
-DoesStep actor id marks old new m (Expand children) = Expands actor id marks old new children.items m
+DoesStep actor id marks old new m (Publish plan) =
+    (new ≡ old) × IsMove (Some (event.Publish actor id plan)) None merged.Over m
+DoesStep actor id marks old new m (Limit made count) =
+    (new ≡ old) × IsMove (Some (event.Limit actor id made count)) None merged.Over m
+DoesStep actor id marks old new m (Expand children) =
+    Expands actor id marks old new children.items m

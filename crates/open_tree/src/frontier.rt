@@ -24,8 +24,8 @@ struct Priority {
     id: u32,
 }
 
-/// The frontier of the search. Nodes lie by their ids, and no more where they left; the open ones also stand in a heap
-/// by rank and id, so that no call looks at all of them.
+/// The frontier of the search. Nodes lie by their ids, and no more where they left; the open ones
+/// also stand in a heap by rank and id, so that no call looks at all of them.
 #[derive(Drop)]
 pub struct Frontier {
     slots: Vec<Option<Slot>>,
@@ -41,7 +41,12 @@ impl Model for Frontier {
 
     ghost Value = { FrontierView };
 
-    ghost view = { λ f. record { nodes = nodes_from 0 f.slots.items; made = vec_len f.slots; room = min (vec_capacity f.slots - vec_len f.slots) (heap_capacity f.ready - heap_len f.ready) } };
+    ghost view = { λ f. record {
+      nodes = nodes_from 0 f.slots.items;
+      made = vec_len f.slots;
+      room = min (vec_capacity f.slots - vec_len f.slots)
+          (heap_capacity f.ready - heap_len f.ready);
+    } };
 
     ghost invariant = { λ f. IsOrdered f.slots.items (heap_items f.ready) f.standing };
 }
@@ -49,7 +54,8 @@ impl Model for Frontier {
 impl Frontier {
     /// The root alone, which is open.
     pub fn root(alloc: Global, rank: u32) -> Result<Frontier, NoMemory>
-        ensures nodes { IfOk result (λ f. f.nodes ≡ record { id = 0; word = []; rank = rank; taker = None } ∷ []) }
+        ensures nodes { IfOk result (λ f. f.nodes
+            ≡ record { id = 0; word = []; rank = rank; taker = None } ∷ []) }
         ensures made { IfOk result (λ f. f.made ≡ 1) }
     {
         let mut slots = Vec::new(alloc);
@@ -104,7 +110,8 @@ impl Frontier {
     /// Gives the least open node to an actor, where one is open.
     pub fn take_least(&mut self, actor: u32)
         ensures none { open_nodes self.old.nodes ≡ [] → self.new ≡ self.old }
-        ensures nodes { (n : RankedNode) → IsLeastOpen self.old.nodes n → self.new.nodes ≡ map (taken_by actor n.id) self.old.nodes }
+        ensures nodes { (n : RankedNode) → IsLeastOpen self.old.nodes n
+            → self.new.nodes ≡ map (taken_by actor n.id) self.old.nodes }
         ensures made { self.new.made ≡ self.old.made }
         ensures room { self.old.room ≤ self.new.room }
     {
@@ -144,13 +151,14 @@ impl Frontier {
         }
     }
 
-    /// Puts open nodes in the place of the one of an id, which somebody took, with the next ids in order. There is room
-    /// for them.
+    /// Puts open nodes in the place of the one of an id, which somebody took, with the next ids in
+    /// order. There is room for them.
     pub fn expand(&mut self, id: u32, children: Vec<Node>)
         requires held { IsTrue (is_held (node_of id self.old.nodes)) }
         requires room { vec_len children ≤ self.old.room }
         requires ids { self.old.made + vec_len children ≤ 2 ^ 32 }
-        ensures nodes { self.new.nodes ≡ without id self.old.nodes ++ open_from self.old.made children.items }
+        ensures nodes { self.new.nodes ≡ without id self.old.nodes
+            ++ open_from self.old.made children.items }
         ensures made { self.new.made ≡ self.old.made + vec_len children }
     {
         self.leave(id);

@@ -5,7 +5,8 @@ use crate::node::Node;
 use std::marker::Model;
 use tp_spec::{Limits, List, Mark, Problem, Timed};
 
-/// A node that an actor took, and the view under which it did: the clock, the commitments, the limits and the problem.
+/// A node that an actor took, and the view under which it did: the clock, the commitments, the
+/// limits and the problem.
 #[derive(Drop)]
 pub struct Job<'p> {
     problem: &'p Problem,
@@ -25,12 +26,19 @@ impl<'p> Model for Job<'p> {
 
     ghost coded = { Prim.hlevel (codes, expr.the_row.coded) };
 
-    ghost view = { λ j. record { problem = j.problem.now; limits = j.limits; id = j.id; node = j.node; clock = j.clock; commits = j.commits } };
+    ghost view = { λ j. record {
+      problem = j.problem.now;
+      limits = j.limits;
+      id = j.id;
+      node = j.node;
+      clock = j.clock;
+      commits = j.commits;
+    } };
 }
 
 impl<'p> Job<'p> {
-    /// A job of a node under a view.
-    pub fn new(
+    /// A job of a node under a view. Only a take makes one.
+    pub(crate) fn new(
         problem: &'p Problem,
         limits: Limits,
         id: u32,
@@ -121,7 +129,8 @@ impl<'p> Model for Sprouts<'p> {
 }
 
 impl<'p> Sprouts<'p> {
-    /// The sprouts of a job: exactly the marks that make its word a live word, in order. It takes no memory.
+    /// The sprouts of a job: exactly the marks that make its word a live word, in order. It takes
+    /// no memory.
     pub fn new(job: Job<'p>, marks: List<Mark>) -> Sprouts<'p>
         requires { AreSprouts (record { job = job; marks = marks }) }
         ensures job { result.job ≡ job.entry }
@@ -137,9 +146,10 @@ impl<'p> Sprouts<'p> {
         self.job.id()
     }
 
-    /// The marks.
+    /// The marks: exactly those that make the job's word a live word, in order.
     pub fn marks(&self) -> &[Mark]
-        ensures { result.now ≡ self.now.marks }
+        ensures marks { result.now ≡ self.now.marks }
+        ensures exact { AreSprouts self.now }
     {
         self.marks.as_slice()
     }

@@ -3,6 +3,7 @@
 
 mod frontier;
 mod job;
+mod laws;
 mod node;
 mod plain;
 mod rows;
@@ -10,6 +11,7 @@ mod steps;
 mod tree;
 
 pub use job::{Job, Merged, Sprouts, Taken};
+pub use laws::outcomes_end_runs;
 pub use node::Node;
 pub use plain::{PlainActions, PlainWalk};
 pub use tree::Tree;

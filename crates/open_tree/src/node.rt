@@ -20,8 +20,8 @@ impl Model for Node {
 }
 
 impl Node {
-    /// The node of a word.
-    pub fn new(word: List<Mark>, rank: u32) -> Node
+    /// The node of a word. Only this crate makes one, so that its rank is the word's.
+    pub(crate) fn new(word: List<Mark>, rank: u32) -> Node
         ensures word { result.word ≡ word }
         ensures rank { result.rank ≡ rank }
     {

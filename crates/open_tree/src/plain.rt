@@ -30,7 +30,8 @@ struct ActionRows {
 
 impl ActionRows {
     fn of(alloc: Global, facts: usize, action: &Action) -> Result<ActionRows, NoMemory>
-        ensures { IfOk result (λ r. AreRowsOf r (words_for facts) action.now.start_conds action.now.start_effects) }
+        ensures { IfOk result (λ r. AreRowsOf r (words_for facts) action.now.start_conds
+            action.now.start_effects) }
     {
         let conds = action.start_conds.as_slice();
         let effects = action.start_effects.as_slice();
@@ -82,7 +83,9 @@ impl ActionRows {
 
     /// Whether its conditions hold where exactly these facts are true.
     fn holds_in(&self, facts: &FactRow) -> bool
-        ensures { (p : Ground) (s : State) (a : ℕ) → IsWellFormed p → is_plain p ≡ true → AreActionRows p a self.now → IsRowOf facts.now (words_for (length p.facts)) s.fact → result ≡ own p s (Start a) }
+        ensures { (p : Ground) (s : State) (a : ℕ) → IsWellFormed p → is_plain p ≡ true
+            → AreActionRows p a self.now → IsRowOf facts.now (words_for (length p.facts)) s.fact
+            → result ≡ own p s (Start a) }
     {
         self.wanted.is_within(facts) && !self.unwanted.meets(facts)
     }
@@ -149,8 +152,9 @@ impl PlainActions {
     }
 }
 
-/// A word of a plain problem that was read so far: the facts before its last group, what that group asks and does, and
-/// the least number of an action whose start comes behind the group in item order, or none where the group is empty.
+/// A word of a plain problem that was read so far: the facts before its last group, what that group
+/// asks and does, and the least number of an action whose start comes behind the group in item
+/// order, or none where the group is empty.
 #[derive(Drop)]
 pub struct PlainWalk<'a> {
     actions: &'a PlainActions,
@@ -168,7 +172,8 @@ impl<'a> PlainWalk<'a> {
         actions: &'a PlainActions,
         problem: &Problem,
     ) -> Result<PlainWalk<'a>, NoMemory>
-        ensures { is_plain problem.now ≡ true → AreTables problem.now actions.now → IfOk result (λ w. StandsFor problem.now w (first_progress problem.now)) }
+        ensures { is_plain problem.now ≡ true → AreTables problem.now actions.now
+            → IfOk result (λ w. StandsFor problem.now w (first_progress problem.now)) }
     {
         let facts = actions.facts;
         Ok(PlainWalk {
@@ -188,7 +193,8 @@ impl<'a> PlainWalk<'a> {
         problem: &Problem,
         word: &[Mark],
     ) -> Result<PlainWalk<'a>, NoMemory>
-        ensures { is_plain problem.now ≡ true → AreTables problem.now actions.now → IfOk result (λ w. StandsFor problem.now w (progress problem.now word.now)) }
+        ensures { is_plain problem.now ≡ true → AreTables problem.now actions.now
+            → IfOk result (λ w. StandsFor problem.now w (progress problem.now word.now)) }
     {
         let mut walk = PlainWalk::at_start(alloc, actions, problem)?;
         for mark in word {
@@ -199,7 +205,8 @@ impl<'a> PlainWalk<'a> {
 
     /// Reads one mark more. Only starts of the problem's actions change anything.
     pub fn read(&mut self, mark: Mark)
-        ensures { (p : Ground) (c : Progress) → StandsFor p self.old c → StandsFor p self.new (read_mark p c mark) }
+        ensures { (p : Ground) (c : Progress) → StandsFor p self.old c
+            → StandsFor p self.new (read_mark p c mark) }
     {
         if mark.fresh {
             self.close();
@@ -209,7 +216,8 @@ impl<'a> PlainWalk<'a> {
 
     /// Puts an item into the last group.
     fn include(&mut self, item: Item)
-        ensures { (p : Ground) (c : Progress) → StandsFor p self.old c → StandsFor p self.new (with_item c item) }
+        ensures { (p : Ground) (c : Progress) → StandsFor p self.old c
+            → StandsFor p self.new (with_item c item) }
     {
         match item {
             Item::Start(action) => self.start(action),
@@ -220,7 +228,8 @@ impl<'a> PlainWalk<'a> {
 
     /// Puts the start of an action into the last group.
     fn start(&mut self, action: u32)
-        ensures { (p : Ground) (c : Progress) → StandsFor p self.old c → StandsFor p self.new (with_item c (Item.Start action)) }
+        ensures { (p : Ground) (c : Progress) → StandsFor p self.old c
+            → StandsFor p self.new (with_item c (Item.Start action)) }
     {
         let actions = self.actions;
         self.joins_from = Some(at_least(self.joins_from, action as u64 + 1));
@@ -235,7 +244,8 @@ impl<'a> PlainWalk<'a> {
 
     /// Closes the last group.
     fn close(&mut self)
-        ensures { (p : Ground) (c : Progress) → StandsFor p self.old c → StandsFor p self.new (past_group p c) }
+        ensures { (p : Ground) (c : Progress) → StandsFor p self.old c
+            → StandsFor p self.new (past_group p c) }
     {
         self.before.remove_all(&self.deletes);
         self.before.add_all(&self.adds);
@@ -247,7 +257,10 @@ impl<'a> PlainWalk<'a> {
 
     /// The actions whose start may join the last group, rising.
     pub fn joining(&self, alloc: Global) -> Result<Vec<u32>, NoMemory>
-        ensures { (p : Ground) (c : Progress) → StandsFor p self.now c → IfOk result (λ v. v.items ≡ filter (λ a. may_follow p c (record { fresh = false; item = Start a })) (range_with_len 0 (length p.actions))) }
+        ensures { (p : Ground) (c : Progress) → StandsFor p self.now c
+            → IfOk result (λ v. v.items
+            ≡ filter (λ a. may_follow p c (record { fresh = false; item = Start a }))
+            (range_with_len 0 (length p.actions))) }
     {
         let mut found = Vec::new(alloc);
         for (number, rows) in self.actions.rows.iter().enumerate() {
@@ -260,7 +273,9 @@ impl<'a> PlainWalk<'a> {
 
     /// Whether the start of an action, of which these are the rows, may join the last group.
     fn may_join(&self, number: usize, rows: &ActionRows) -> bool
-        ensures { (p : Ground) (c : Progress) → StandsFor p self.now c → AreActionRows p number rows.now → number < length p.actions → result ≡ may_follow p c (record { fresh = false; item = Start number }) }
+        ensures { (p : Ground) (c : Progress) → StandsFor p self.now c
+            → AreActionRows p number rows.now → number < length p.actions
+            → result ≡ may_follow p c (record { fresh = false; item = Start number }) }
     {
         self.is_behind(number) && rows.holds_in(&self.before) && !self.clashes(rows)
     }
@@ -288,8 +303,12 @@ impl<'a> PlainWalk<'a> {
 
     /// The actions whose start may open the next group, rising. The last group is closed.
     pub fn opening(&mut self, alloc: Global) -> Result<Vec<u32>, NoMemory>
-        ensures closed { (p : Ground) (c : Progress) → StandsFor p self.old c → StandsFor p self.new (past_group p c) }
-        ensures opening { (p : Ground) (c : Progress) → StandsFor p self.old c → IfOk result (λ v. v.items ≡ filter (λ a. may_follow p c (record { fresh = true; item = Start a })) (range_with_len 0 (length p.actions))) }
+        ensures closed { (p : Ground) (c : Progress) → StandsFor p self.old c
+            → StandsFor p self.new (past_group p c) }
+        ensures opening { (p : Ground) (c : Progress) → StandsFor p self.old c
+            → IfOk result (λ v. v.items
+            ≡ filter (λ a. may_follow p c (record { fresh = true; item = Start a }))
+            (range_with_len 0 (length p.actions))) }
     {
         self.close();
         let mut found = Vec::new(alloc);
@@ -303,7 +322,8 @@ impl<'a> PlainWalk<'a> {
 
     /// How many goal parts do not hold after the word.
     pub fn unmet(&self, goal: &[Cond]) -> u32
-        ensures { (p : Ground) (c : Progress) → StandsFor p self.now c → goal.now ≡ p.goal → result ≡ unmet_goals p c }
+        ensures { (p : Ground) (c : Progress) → StandsFor p self.now c → goal.now ≡ p.goal
+            → result ≡ unmet_goals p c }
     {
         self.count_unmet(goal).min(u32::MAX as usize) as u32
     }
@@ -331,7 +351,8 @@ impl<'a> PlainWalk<'a> {
 
     /// How many goal parts do not hold after the word and one mark more that may follow it.
     pub fn unmet_with(&self, mark: Mark, goal: &[Cond]) -> u32
-        ensures { (p : Ground) (c : Progress) → StandsFor p self.now c → goal.now ≡ p.goal → IsTrue (may_follow p c mark) → result ≡ unmet_goals p (read_mark p c mark) }
+        ensures { (p : Ground) (c : Progress) → StandsFor p self.now c → goal.now ≡ p.goal
+            → IsTrue (may_follow p c mark) → result ≡ unmet_goals p (read_mark p c mark) }
     {
         let Some(rows) = self.started(mark.item) else {
             return self.unmet(goal);
@@ -367,8 +388,8 @@ impl<'a> PlainWalk<'a> {
         }
     }
 
-    /// What an action adds and deletes goes before what the last group does: an action that joins the group deletes
-    /// nothing that the group adds.
+    /// What an action adds and deletes goes before what the last group does: an action that joins
+    /// the group deletes nothing that the group adds.
     fn is_true_with(&self, rows: &ActionRows, fact: u32) -> bool
         ensures { result ≡ is_fact_with self.now rows.now fact }
     {

@@ -26,7 +26,9 @@ impl FactRow {
     /// The set of these facts, without those behind the last word of a row for `facts` facts.
     pub fn of(alloc: Global, facts: usize, members: &[u32]) -> Result<FactRow, NoMemory>
         ensures width { IfOk result (λ r. width r ≡ words_for facts) }
-        ensures has { IfOk result (λ r. (f : ℕ) → has_fact r f ≡ (has_place (words_for facts) f && list_any (λ g. f == g) members.now)) }
+        ensures has { IfOk result (λ r. (f : ℕ)
+            → has_fact r f
+            ≡ (has_place (words_for facts) f && list_any (λ g. f == g) members.now)) }
     {
         let mut row = FactRow::empty(alloc, facts)?;
         for fact in members {
@@ -38,7 +40,8 @@ impl FactRow {
     /// Puts a fact in. One behind the last word changes nothing.
     pub fn insert(&mut self, fact: u32)
         ensures width { width self.new ≡ width self.old }
-        ensures has { (f : ℕ) → has_fact self.new f ≡ (has_fact self.old f || (has_place (width self.old) f && f == fact)) }
+        ensures has { (f : ℕ) → has_fact self.new f
+            ≡ (has_fact self.old f || (has_place (width self.old) f && f == fact)) }
     {
         let index = fact as usize / 64;
         if index < self.words.len() {
@@ -70,7 +73,8 @@ impl FactRow {
     /// Takes in the facts of another set for which it has a place.
     pub fn add_all(&mut self, other: &FactRow)
         ensures width { width self.new ≡ width self.old }
-        ensures has { (f : ℕ) → has_fact self.new f ≡ (has_fact self.old f || (has_place (width self.old) f && has_fact other.now f)) }
+        ensures has { (f : ℕ) → has_fact self.new f
+            ≡ (has_fact self.old f || (has_place (width self.old) f && has_fact other.now f)) }
     {
         add_words(&mut self.words, &other.words);
     }
@@ -78,7 +82,8 @@ impl FactRow {
     /// Loses all facts of another set.
     pub fn remove_all(&mut self, other: &FactRow)
         ensures width { width self.new ≡ width self.old }
-        ensures has { (f : ℕ) → has_fact self.new f ≡ (has_fact self.old f && not (has_fact other.now f)) }
+        ensures has { (f : ℕ) → has_fact self.new f
+            ≡ (has_fact self.old f && not (has_fact other.now f)) }
     {
         remove_words(&mut self.words, &other.words);
     }
@@ -128,7 +133,8 @@ fn is_part(a: &[u64], b: &[u64]) -> bool
 
 fn add_words(into: &mut [u64], more: &[u64])
     ensures len { length into.new ≡ length into.old }
-    ensures has { (f : ℕ) → has_bit into.new f ≡ (has_bit into.old f || (has_place (length into.old) f && has_bit more.now f)) }
+    ensures has { (f : ℕ) → has_bit into.new f
+        ≡ (has_bit into.old f || (has_place (length into.old) f && has_bit more.now f)) }
 {
     for (k, word) in into.iter_mut().enumerate() {
         *word |= word_at(more, k);

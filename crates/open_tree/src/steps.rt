@@ -13,9 +13,11 @@ use crate::plain::{PlainActions, PlainWalk};
 use std::alloc::Global;
 use tp_spec::{Item, List, Mark, NoMemory, Plan, Problem, Timed};
 
-/// The plan of a word of instant actions in which each group stands as early as it can: the k-th group at tick k.
+/// The plan of a word of instant actions in which each group stands as early as it can: the k-th
+/// group at tick k.
 pub fn earliest_plan(alloc: Global, word: &[Mark]) -> Result<Plan, NoMemory>
-    ensures { (p : Ground) → is_plain p ≡ true → IfOk result (λ plan. plan ≡ plan_of p word.now consecutive) }
+    ensures { (p : Ground) → is_plain p ≡ true
+        → IfOk result (λ plan. plan ≡ plan_of p word.now consecutive) }
 {
     let mut acts = List::new(alloc);
     let mut groups = 0u64;
@@ -37,8 +39,9 @@ pub fn earliest_plan(alloc: Global, word: &[Mark]) -> Result<Plan, NoMemory>
     })
 }
 
-/// The nodes of a word with each of these marks behind it, in order. Their ranks are those of the longer words where the
-/// problem is plain, the tables are its own, and each mark may follow the word.
+/// The nodes of a word with each of these marks behind it, in order. Their ranks are those of the
+/// longer words where the problem is plain, the tables are its own, and each mark may follow the
+/// word.
 pub fn children_of(
     alloc: Global,
     actions: &PlainActions,
@@ -47,7 +50,8 @@ pub fn children_of(
     marks: &[Mark],
 ) -> Result<Vec<Node>, NoMemory>
     ensures len { IfOk result (λ v. vec_len v ≡ length marks.now) }
-    ensures nodes { is_plain problem.now ≡ true → AreTables problem.now actions.now → IsTrue (list_all (may_follow problem.now (progress problem.now word.now)) marks.now)
+    ensures nodes { is_plain problem.now ≡ true → AreTables problem.now actions.now
+        → IsTrue (list_all (may_follow problem.now (progress problem.now word.now)) marks.now)
         → IfOk result (λ v. v.items ≡ map (child_node problem.now word.now) marks.now) }
 {
     let walk = PlainWalk::over(alloc, actions, problem, word)?;

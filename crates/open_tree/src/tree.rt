@@ -24,8 +24,9 @@ use std::snapshot::Snapshot;
 use tp_spec::{Cause, Event, Limits, List, NoMemory, Plan, Problem};
 use tp_world::Clock;
 
-/// The tree of words that are tried on a plain problem, with the clock that each turn reads once and the history of all
-/// turns. The history is always a run of the situated machine that ends settled.
+/// The tree of words that are tried on a plain problem, with the clock that each turn reads once
+/// and the history of all turns. The history is always a run of the situated machine that ends
+/// settled.
 #[derive(Drop)]
 pub struct Tree<'p, C: Clock> {
     alloc: Global,
@@ -52,9 +53,30 @@ impl<'p, C: Clock> Model for Tree<'p, C> {
 
     ghost coded = { Prim.hlevel (codes, expr.the_row.coded) };
 
-    ghost view = { λ t. record { problem = t.problem.now; limits = t.limits; clock = t.clock; opened = t.opened.value; history = t.history.items } };
+    ghost view = { λ t. record {
+      problem = t.problem.now;
+      limits = t.limits;
+      clock = t.clock;
+      opened = t.opened.value;
+      history = t.history.items;
+    } };
 
-    ghost invariant = { λ t. Keeps (vec_len t.history) (vec_capacity t.history) (C.rate t.clock) t.problem.now.scale (C.count t.opened.value) (C.count t.clock) (C.last t.opened.value) (C.last t.clock) (C.given t.opened.value) (C.given t.clock) t.history.items t.over t.spare × Stands t.problem.now t.limits t.actions t.frontier t.history.items };
+    ghost invariant = { λ t. Keeps (record {
+      len = vec_len t.history;
+      capacity = vec_capacity t.history;
+      rate = C.rate t.clock;
+      scale = t.problem.now.scale;
+      began = C.count t.opened.value;
+      count = C.count t.clock;
+      first = C.last t.opened.value;
+      last = C.last t.clock;
+      opened = C.given t.opened.value;
+      given = C.given t.clock;
+      history = t.history.items;
+      over = t.over;
+      spare = t.spare;
+    })
+        × Stands t.problem.now t.limits t.actions t.frontier t.history.items };
 }
 
 /// What a merge is going to do, with all the memory that it takes.
@@ -67,8 +89,8 @@ enum Step {
 }
 
 impl<'p, C: Clock> Tree<'p, C> {
-    /// The tree of the empty word, which nobody took. The clock has the problem's rate, and the problem is plain. Where
-    /// memory is refused the clock comes back.
+    /// The tree of the empty word, which nobody took. The clock has the problem's rate, and the
+    /// problem is plain. Where memory is refused the clock comes back.
     pub fn new(
         alloc: Global,
         problem: &'p Problem,
@@ -108,17 +130,23 @@ impl<'p, C: Clock> Tree<'p, C> {
         })
     }
 
-    /// One turn in which an actor takes the least open node, where there is one. The job's word is live, and the job is of
-    /// the history as it stands then. Over exactly where an outcome stands. Where memory is refused the turn is one halt;
-    /// the clock was read all the same.
+    /// One turn in which an actor takes the least open node, where there is one. The job's word is
+    /// live, and the job is of the history as it stands then. Over exactly where an outcome stands.
+    /// Where memory is refused the turn is one halt; the clock was read all the same.
     pub fn take(&mut self, actor: u32) -> Result<Taken<'p>, NoMemory>
         ensures whole { IsWholeRun self.new.problem self.new.limits self.new.history }
         ensures charter { SameCharter self.old self.new }
-        ensures over { has_outcome self.old.history ≡ true → (result ≡ Ok Taken.Over) × (self.new ≡ self.old) }
-        ensures turn { has_outcome self.old.history ≡ false → OnOk result (IsTurn self.old.history self.new.history actor (C.last self.new.clock)) }
-        ensures count { has_outcome self.old.history ≡ false → C.count self.new.clock ≡ one_more (C.count self.old.clock) }
-        ensures taken { has_outcome self.old.history ≡ false → IfOk result (GivesTaken self.old.problem self.old.limits self.old.history self.new.history actor (C.last self.new.clock)) }
-        ensures err { OnErr result (self.new.history ≡ self.old.history ++ Event.Halt Cause.Memory ∷ []) }
+        ensures over { has_outcome self.old.history ≡ true
+            → (result ≡ Ok Taken.Over) × (self.new ≡ self.old) }
+        ensures turn { has_outcome self.old.history ≡ false
+            → OnOk result (IsTurn self.old.history self.new.history actor (C.last self.new.clock)) }
+        ensures count { has_outcome self.old.history ≡ false
+            → C.count self.new.clock ≡ one_more (C.count self.old.clock) }
+        ensures taken { has_outcome self.old.history ≡ false
+            → IfOk result (GivesTaken self.old.problem self.old.limits self.old.history
+            self.new.history actor (C.last self.new.clock)) }
+        ensures err { OnErr result (self.new.history ≡ self.old.history ++ Event.Halt Cause.Memory
+            ∷ []) }
     {
         if self.over {
             return Ok(Taken::Over);
@@ -150,25 +178,33 @@ impl<'p, C: Clock> Tree<'p, C> {
         }
     }
 
-    /// One turn in which an actor hands in the sprouts of a job that it took. A node that spells a plan is published, one whose
-    /// marks would give too many ids is the limit, every other one is expanded; where that leaves no node, the search is
-    /// exhausted. Over exactly where an outcome stands at return, else stale exactly where the node had left the frontier.
-    /// Where memory is refused the turn is one halt, and the sprouts come back.
+    /// One turn in which an actor hands in the sprouts of a job that it took. A node that spells a
+    /// plan is published, one whose marks would give too many ids is the limit, every other one is
+    /// expanded; where that leaves no node, the search is exhausted. Over exactly where an outcome
+    /// stands at return, else stale exactly where the node had left the frontier. Where memory is
+    /// refused the turn is one halt, and the sprouts come back.
     pub fn merge(
         &mut self,
         actor: u32,
         sprouts: Sprouts<'p>,
     ) -> Result<Merged, (NoMemory, Sprouts<'p>)>
-        requires job { has_outcome self.old.history ≡ false → IsJobOf self.old.limits self.old.history actor sprouts.job }
+        requires job { has_outcome self.old.history ≡ false
+            → IsJobOf self.old.limits self.old.history actor sprouts.job }
         requires problem { sprouts.job.problem ≡ self.old.problem }
         requires limits { sprouts.job.limits ≡ self.old.limits }
         ensures whole { IsWholeRun self.new.problem self.new.limits self.new.history }
         ensures charter { SameCharter self.old self.new }
-        ensures over { has_outcome self.old.history ≡ true → (result ≡ Ok Merged.Over) × (self.new ≡ self.old) }
-        ensures turn { has_outcome self.old.history ≡ false → OnOk result (IsTurn self.old.history self.new.history actor (C.last self.new.clock)) }
-        ensures count { has_outcome self.old.history ≡ false → C.count self.new.clock ≡ one_more (C.count self.old.clock) }
-        ensures merged { has_outcome self.old.history ≡ false → IfOk result (GivesMerged self.old.limits self.old.history self.new.history actor (C.last self.new.clock) sprouts.entry) }
-        ensures err { OnErr result (self.new.history ≡ self.old.history ++ Event.Halt Cause.Memory ∷ []) }
+        ensures over { has_outcome self.old.history ≡ true
+            → (result ≡ Ok Merged.Over) × (self.new ≡ self.old) }
+        ensures turn { has_outcome self.old.history ≡ false
+            → OnOk result (IsTurn self.old.history self.new.history actor (C.last self.new.clock)) }
+        ensures count { has_outcome self.old.history ≡ false
+            → C.count self.new.clock ≡ one_more (C.count self.old.clock) }
+        ensures merged { has_outcome self.old.history ≡ false
+            → IfOk result (GivesMerged self.old.limits self.old.history self.new.history actor
+            (C.last self.new.clock) sprouts.entry) }
+        ensures err { OnErr result (self.new.history ≡ self.old.history ++ Event.Halt Cause.Memory
+            ∷ []) }
         ensures back { IfErr result (λ e. e.1 ≡ sprouts.entry) }
     {
         if self.over {
@@ -207,7 +243,8 @@ impl<'p, C: Clock> Tree<'p, C> {
         ensures whole { IsWholeRun self.new.problem self.new.limits self.new.history }
         ensures charter { SameCharter self.old self.new }
         ensures over { has_outcome self.old.history ≡ true → self.new ≡ self.old }
-        ensures halted { has_outcome self.old.history ≡ false → self.new.history ≡ self.old.history ++ Event.Halt cause ∷ [] }
+        ensures halted { has_outcome self.old.history ≡ false
+            → self.new.history ≡ self.old.history ++ Event.Halt cause ∷ [] }
         ensures clock { self.new.clock ≡ self.old.clock }
     {
         if self.over {
@@ -217,12 +254,16 @@ impl<'p, C: Clock> Tree<'p, C> {
         self.over = true;
     }
 
-    /// All events so far. They are a run that ends settled, and each plan that is still possible begins with the word of
-    /// a node.
+    /// All events so far. They are a run that ends settled, each plan that is still possible begins
+    /// with the word of a node, and the Ticks are the clock's readings since the start.
     pub fn history(&self) -> &[Event]
         ensures events { result.now ≡ self.now.history }
         ensures whole { IsWholeRun self.now.problem self.now.limits self.now.history }
-        ensures covered { CoversAll self.now.problem self.now.limits (state_of self.now.limits self.now.history) }
+        ensures covered { CoversAll self.now.problem self.now.limits
+            (state_of self.now.limits self.now.history) }
+        ensures clocked { IsTold (C.count self.now.opened) (C.count self.now.clock)
+            (C.last self.now.opened) (C.last self.now.clock) (C.given self.now.opened)
+            self.now.history }
     {
         &self.history
     }
@@ -234,13 +275,17 @@ impl<'p, C: Clock> Tree<'p, C> {
         &self.limits
     }
 
-    /// The history, which is a run that ends settled, and the clock.
+    /// The history, which is a run that ends settled, and the clock, whose readings since the start
+    /// the Ticks are. It has the problem's rate, and tells the readings that the one at `new` told.
     pub fn into_parts(self) -> (Vec<Event>, C)
         ensures history { result.0.items ≡ self.entry.history }
         ensures whole { IsWholeRun self.entry.problem self.entry.limits result.0.items }
         ensures clock { result.1 ≡ self.entry.clock }
         ensures rate { C.rate result.1 ≡ self.entry.problem.scale }
-        ensures clocked { IsTold (C.count self.entry.opened) (C.count self.entry.clock) (C.last self.entry.opened) (C.last self.entry.clock) (C.given self.entry.opened) self.entry.history }
+        ensures given { C.given result.1 ≡ C.given self.entry.opened }
+        ensures clocked { IsTold (C.count self.entry.opened) (C.count self.entry.clock)
+            (C.last self.entry.opened) (C.last self.entry.clock) (C.given self.entry.opened)
+            self.entry.history }
     {
         let Tree {
             alloc: _,
@@ -280,7 +325,8 @@ fn is_over(merged: Merged) -> bool
 fn move_of(frontier: &mut Frontier, actor: u32, sprouts: Sprouts<'_>, step: Step) -> Move
     requires { HasRoom sprouts.job.id frontier.old step }
     ensures events { MakesMove actor sprouts.entry result }
-    ensures does { DoesStep actor sprouts.entry.job.id sprouts.entry.marks frontier.old frontier.new result step }
+    ensures does { DoesStep actor sprouts.entry.job.id sprouts.entry.marks frontier.old frontier.new
+        result step }
 {
     let id = sprouts.id();
     match step {
@@ -334,7 +380,8 @@ fn write_turn(
     end: Option<Event>,
 )
     requires { vec_len history.old + 4 ≤ vec_capacity history.old }
-    ensures items { history.new.items ≡ history.old.items ++ Event.Tick actor reading ∷ (event_list deed ++ event_list end) }
+    ensures items { history.new.items ≡ history.old.items ++ Event.Tick actor reading
+        ∷ (event_list deed ++ event_list end) }
     ensures room { vec_len history.new < vec_capacity history.new }
 {
     history.push_reserved(Event::Tick { actor, reading });
@@ -377,7 +424,8 @@ fn root_of(alloc: Global, problem: &Problem) -> Result<(PlainActions, Frontier),
 
 /// How many goal parts do not hold at the start.
 fn root_rank(alloc: Global, actions: &PlainActions, problem: &Problem) -> Result<u32, NoMemory>
-    ensures { is_plain problem.now ≡ true → AreTables problem.now actions.now → IfOk result (λ n. IsWellFormed problem.now × (n ≡ rank problem.now [])) }
+    ensures { is_plain problem.now ≡ true → AreTables problem.now actions.now
+        → IfOk result (λ n. IsWellFormed problem.now × (n ≡ rank problem.now [])) }
 {
     let walk = PlainWalk::at_start(alloc, actions, problem)?;
     Ok(walk.unmet(problem.goal.as_slice()))
@@ -412,8 +460,10 @@ fn prepare(
     actor: u32,
     sprouts: &Sprouts<'_>,
 ) -> Result<Step, NoMemory>
-    requires { IsReady problem.now nodes actions.now frontier.old actor sprouts.now.job.id sprouts.now.marks }
-    ensures step { IfOk result (IsStep problem.now nodes frontier.old actor sprouts.now.job.id sprouts.now.marks) }
+    requires { IsReady problem.now nodes actions.now frontier.old actor sprouts.now.job.id
+        sprouts.now.marks }
+    ensures step { IfOk result (IsStep problem.now nodes frontier.old actor sprouts.now.job.id
+        sprouts.now.marks) }
     ensures roomy { IfOk result (HasRoom sprouts.now.job.id frontier.new) }
     ensures nodes { frontier.new.nodes ≡ frontier.old.nodes }
     ensures made { frontier.new.made ≡ frontier.old.made }

@@ -40,9 +40,9 @@ over_idle t u a x le over =
     and_right (x.action == a) (runs_at u x) (and_right (nat_le x.start u) (nat_lt u (x.start + x.length)) (le-ltb u (x.start + x.length) (omega (arith, le, ended))))
 
 -- what ends is let go: what runs from then on stays
-let_go_same : (t u a : ℕ) → t ≤ u → (xs : List Timed) → list_any (runs_of u a) (filter (λ x. not (is_over t x)) xs) ≡ list_any (runs_of u a) xs
-let_go_same t u a le [] = refl
-let_go_same t u a le (x ∷ xs) = by_test (is_over t x) (over_idle t u a x le) (let_go_same t u a le xs) where
+drop_ended_same : (t u a : ℕ) → t ≤ u → (xs : List Timed) → list_any (runs_of u a) (filter (λ x. not (is_over t x)) xs) ≡ list_any (runs_of u a) xs
+drop_ended_same t u a le [] = refl
+drop_ended_same t u a le (x ∷ xs) = by_test (is_over t x) (over_idle t u a x le) (drop_ended_same t u a le xs) where
   by_test : (b : Bool) → (b ≡ true → runs_of u a x ≡ false) → list_any (runs_of u a) (filter (λ y. not (is_over t y)) xs) ≡ list_any (runs_of u a) xs
       → list_any (runs_of u a) (cond (not b) (x ∷ filter (λ y. not (is_over t y)) xs) (filter (λ y. not (is_over t y)) xs)) ≡ (runs_of u a x || list_any (runs_of u a) xs)
   by_test true idle rest = rest ∙ ap (λ c. c || list_any (runs_of u a) xs) (sym (idle refl))
@@ -136,7 +136,7 @@ moved_same p running coming t u le s a =
     list_any-append (runs_of u a) (moved p t running coming) (later_at t coming)
     ∙ ap (λ b. b || list_any (runs_of u a) (later_at t coming))
     (list_any-append (runs_of u a) (filter (λ x. not (is_over t x)) running) (filter (is_watched p) (begun_at t coming))
-    ∙ (λ k. let_go_same t u a le running k || watched_same p s u a bad (begun_at t coming) k))
+    ∙ (λ k. drop_ended_same t u a le running k || watched_same p s u a bad (begun_at t coming) k))
     ∙ regroup_more (list_any (runs_of u a) running) (list_any (runs_of u a) (begun_at t coming)) (list_any (runs_of u a) (later_at t coming)) (list_any (runs_of u a) coming) (split_any (runs_of u a) t coming)
     ∙ sym (list_any-append (runs_of u a) running coming))
 

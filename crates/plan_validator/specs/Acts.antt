@@ -20,7 +20,8 @@ keeps rule x y = lets rule y.action y.start x
 
 -- a tick for each action: from then on all these acts let it start
 abbrev pub AreFree : Rule → List Timed → List ℕ → Type 0
-AreFree rule acts free = (a t : ℕ) → a < length free → list_all (lets rule a t) acts ≡ nat_le (get_or free a 0) t
+AreFree rule acts free =
+    (a t : ℕ) → a < length free → list_all (lets rule a t) acts ≡ nat_le (get_or free a 0) t
 
 -- starts and lengths that keep sums within 64 bits
 abbrev pub is_small : Timed → Bool

@@ -25,7 +25,8 @@ lesser None a = a
 lesser (Some b) a = min b a
 
 -- an action is the first that runs at a tick with an invariant that does not hold
-pub record IsFirstBroken (p : Problem) (acts : List Timed) (t : ℕ) (s : State) (action : ℕ) : Type 0 where
+pub record IsFirstBroken (p : Problem) (acts : List Timed) (t : ℕ) (s : State) (action : ℕ) :
+    Type 0 where
   pub broken : is_broken_in p acts t s action ≡ true
   pub first : (a : ℕ) → a < action → is_broken_in p acts t s a ≡ false
 
@@ -45,7 +46,8 @@ IsJudged p acts t (Fault v) = IsFaultAt p acts t v
 IsJudged p acts t (Passed next) = IsStep p acts t next
 
 -- Up to a tick all is whole, nothing happens from there to what is left, and this is the state.
-pub record IsReached (p : Problem) (acts : List Timed) (end : ℕ) (state : StateView) (rest : List Standing) : Type 0 where
+pub record IsReached (p : Problem) (acts : List Timed) (end : ℕ) (state : StateView)
+    (rest : List Standing) : Type 0 where
   pub tick : ℕ
   pub in_time : tick ≤ suc end
   pub passed : (u : ℕ) → u < tick → Passes p acts u

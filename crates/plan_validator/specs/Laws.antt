@@ -10,4 +10,6 @@ use Rattle.plan_validator.specs.Verdicts.{IsVerdict}
 
 -- A valid plan gets no other verdict: each other verdict names a part that is broken.
 abbrev pub OnlyValidOfValid : Type 0
-OnlyValidOfValid = (p : Problem) (l : Limits) (plan : Plan) (v : Verdict) → IsVerdict p l plan v → course.Valid p l plan → v ≡ Valid
+OnlyValidOfValid =
+    (p : Problem) (l : Limits) (plan : Plan) (v : Verdict) → IsVerdict p l plan v
+    → course.Valid p l plan → v ≡ Valid

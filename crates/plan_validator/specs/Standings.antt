@@ -20,7 +20,8 @@ item_of (Starting a) = Start a
 
 -- earlier, or at one tick and first in the item order
 abbrev pub standing_before : Standing → Standing → Bool
-standing_before x y = nat_lt x.tick y.tick || (x.tick == y.tick && item_before (item_of x.place) (item_of y.place))
+standing_before x y =
+    nat_lt x.tick y.tick || (x.tick == y.tick && item_before (item_of x.place) (item_of y.place))
 
 -- whether one of some standings is of this item and this tick
 abbrev pub has_standing : List Standing → ℕ → Item → Bool
@@ -35,7 +36,8 @@ stands_timed p n t (Start a) = false
 -- whether an item is an end or a start of one of these acts at a tick
 abbrev pub stands_by : Problem → List Timed → ℕ → Item → Bool
 stands_by p acts t (TimedAt k) = false
-stands_by p acts t (End a) = is_durative p a && list_any (λ x. x.action == a && x.start + x.length == t) acts
+stands_by p acts t (End a) =
+    is_durative p a && list_any (λ x. x.action == a && x.start + x.length == t) acts
 stands_by p acts t (Start a) = list_any (λ x. x.action == a && x.start == t) acts
 
 -- standings in order, none twice, of the same items and ticks
@@ -48,7 +50,8 @@ abbrev pub items_at : ℕ → List Standing → List Item
 items_at t xs = map (λ x. item_of x.place) (filter (λ x. x.tick == t) xs)
 
 -- all that stands from a tick on
-pub record AreStandings (p : Problem) (acts : List Timed) (t : ℕ) (xs : List Standing) : Type 0 where
+pub record AreStandings (p : Problem) (acts : List Timed) (t : ℕ) (xs : List Standing)
+    : Type 0 where
   pub rising : IsTrue (each_pair standing_before xs)
   pub late : IsTrue (list_all (λ x. nat_le t x.tick) xs)
   pub are : (u : ℕ) → t ≤ u → items_at u xs ≡ happening p acts u

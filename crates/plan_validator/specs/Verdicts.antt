@@ -19,12 +19,14 @@ use Rattle.plan_validator.specs.declared.verdict.Verdict.TheVariants.{Valid, Too
 abbrev pub starts_apart : Timed → Timed → Bool
 starts_apart x y = not (x.action == y.action && x.start == y.start)
 
--- whether the earlier of two acts, where they are of one action, ends no later than the later starts
+-- whether the earlier of two acts, where they are of one action, ends no later than the later
+-- starts
 abbrev pub in_turn : Timed → Timed → Bool
 in_turn x y = not (x.action == y.action) || nat_le (x.start + x.length) y.start
 
 -- An act of this start and action is the first that breaks a rule with one before it.
-pub record IsFirstOut (keeps : Timed → Timed → Bool) (acts : List Timed) (start action : ℕ) : Type 0 where
+pub record IsFirstOut (keeps : Timed → Timed → Bool) (acts : List Timed) (start action : ℕ) :
+    Type 0 where
   pub act : Timed
   pub before : List Timed
   pub behind : List Timed
@@ -41,7 +43,8 @@ pub record IsLengthOut (p : Problem) (acts : List Timed) (start action : ℕ) : 
   pub starts : act.start ≡ start
   pub names : act.action ≡ action
 
--- Whether a plan ends well: at 0 or at a happening, no later than the horizon, no earlier than any act's end.
+-- Whether a plan ends well: at 0 or at a happening, no later than the horizon, no earlier than any
+-- act's end.
 abbrev pub ends_well : Problem → Limits → Plan → Bool
 ends_well p l plan =
     (plan.end == 0 || not (is_empty (happening p plan.acts plan.end))) && nat_le plan.end l.horizon
@@ -74,11 +77,13 @@ pub record IsOverflow (p : Problem) (acts : List Timed) (t fluent : ℕ) : Type 
   pub met : IsTrue (list_all (own p state) (happening p acts t))
   pub none : state_after p acts t ≡ None
   pub wide : IsTrue (not (fits (changed state fluent (effects_of p (happening p acts t)))))
-  pub first : (x : ℕ) → x < fluent → IsTrue (fits (changed state x (effects_of p (happening p acts t))))
+  pub first : (x : ℕ) → x < fluent
+      → IsTrue (fits (changed state x (effects_of p (happening p acts t))))
 
 -- whether an action runs at a tick and an invariant of it does not hold
 abbrev pub is_broken_in : Problem → List Timed → ℕ → State → ℕ → Bool
-is_broken_in p acts t s a = list_any (λ x. x.action == a && runs_at t x) acts && not (list_all (holds s) (invariants p a))
+is_broken_in p acts t s a =
+    list_any (λ x. x.action == a && runs_at t x) acts && not (list_all (holds s) (invariants p a))
 
 -- An action is the first that runs at a tick with an invariant that does not hold after it.
 pub record IsBroken (p : Problem) (acts : List Timed) (t action : ℕ) : Type 0 where
@@ -118,12 +123,14 @@ pub record IsTwice (l : Limits) (acts : List Timed) (start action : ℕ) : Type 
   pub few : length acts ≤ l.actions
   pub out : IsFirstOut starts_apart acts start action
 
-pub record IsOutOfLength (p : Problem) (l : Limits) (acts : List Timed) (start action : ℕ) : Type 0 where
+pub record IsOutOfLength (p : Problem) (l : Limits) (acts : List Timed) (start action : ℕ) :
+    Type 0 where
   pub few : length acts ≤ l.actions
   pub once : IsTrue (each_pair starts_apart acts)
   pub out : IsLengthOut p acts start action
 
-pub record IsOverlap (p : Problem) (l : Limits) (acts : List Timed) (start action : ℕ) : Type 0 where
+pub record IsOverlap (p : Problem) (l : Limits) (acts : List Timed) (start action : ℕ)
+    : Type 0 where
   pub few : length acts ≤ l.actions
   pub once : IsTrue (each_pair starts_apart acts)
   pub lengths : IsTrue (list_all (λ x. in_range p x.action x.length) acts)
@@ -131,7 +138,7 @@ pub record IsOverlap (p : Problem) (l : Limits) (acts : List Timed) (start actio
 
 pub record IsEndOff (p : Problem) (l : Limits) (plan : Plan) (end : ℕ) : Type 0 where
   pub acts : AreActsWhole p l plan.acts
-  pub told : plan.end ≡ end
+  pub stated : plan.end ≡ end
   pub broken : IsTrue (not (ends_well p l plan))
 
 -- what a verdict on the acts alone says of them; the others say nothing of these

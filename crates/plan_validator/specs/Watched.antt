@@ -29,10 +29,13 @@ later_at t (x ∷ xs) = if nat_le x.start t then later_at t xs else x ∷ xs
 
 -- the actions whose invariants break at a tick are the same by these acts as by all
 abbrev pub AreRunning : Problem → List Timed → ℕ → List Timed → Type 0
-AreRunning p acts t running = (s : State) (a : ℕ) → is_broken_in p running t s a ≡ is_broken_in p acts t s a
+AreRunning p acts t running =
+    (s : State) (a : ℕ) → is_broken_in p running t s a ≡ is_broken_in p acts t s a
 
--- From a tick on, before which nothing is left, what breaks by the running and the coming acts is what breaks by all.
-pub record AreWatched (p : Problem) (acts running coming : List Timed) (rest : List Standing) : Type 0 where
+-- From a tick on, before which nothing is left, what breaks by the running and the coming acts is
+-- what breaks by all.
+pub record AreWatched (p : Problem) (acts running coming : List Timed) (rest : List Standing) :
+    Type 0 where
   pub tick : ℕ
   pub late : IsTrue (list_all (λ x. nat_le tick x.tick) rest)
   pub rising : IsTrue (each_next act_before coming)

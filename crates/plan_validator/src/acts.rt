@@ -36,7 +36,8 @@ pub(crate) fn first_length_out(problem: &Problem, acts: &[Timed]) -> Option<Time
     None
 }
 
-/// What acts of one action owe each other: not to start at one tick, or to start only when the earlier ones ended.
+/// What acts of one action owe each other: not to start at one tick, or to start only when the
+/// earlier ones ended.
 #[derive(Clone, Copy, Debug, PartialEq, Eq)]
 pub(crate) enum Rule {
     StartsApart,
@@ -56,8 +57,8 @@ impl Rule {
     }
 }
 
-/// The first act that breaks a rule with one before it. It keeps for each action, of so many, the tick from which on it
-/// may start, so that no act is compared with another one.
+/// The first act that breaks a rule with one before it. It keeps for each action, of so many, the
+/// tick from which on it may start, so that no act is compared with another one.
 pub(crate) fn first_out(
     alloc: Global,
     rule: Rule,
@@ -66,7 +67,8 @@ pub(crate) fn first_out(
 ) -> Result<Option<Timed>, NoMemory>
     requires inside { IsTrue (list_all (is_of count) acts.now) }
     requires small { IsTrue (list_all is_small acts.now) }
-    ensures { IfOk result (λ r. MatchOption r (IsTrue (each_pair (keeps rule) acts.now)) (λ x. IsFirstOut (keeps rule) acts.now x.start x.action)) }
+    ensures { IfOk result (λ r. MatchOption r (IsTrue (each_pair (keeps rule) acts.now))
+        (λ x. IsFirstOut (keeps rule) acts.now x.start x.action)) }
 {
     let mut free = match vec![in alloc; 0u64; count] {
         Ok(free) => free,
@@ -83,8 +85,9 @@ pub(crate) fn first_out(
     Ok(None)
 }
 
-/// The first part of a plan's acts alone that is broken: their number, two starts of one action at a tick, a length, or
-/// an act that begins before an earlier one of its action ended; none where all are whole.
+/// The first part of a plan's acts alone that is broken: their number, two starts of one action at
+/// a tick, a length, or an act that begins before an earlier one of its action ended; none where
+/// all are whole.
 pub(crate) fn fault_of_acts(
     alloc: Global,
     problem: &Problem,
@@ -95,7 +98,8 @@ pub(crate) fn fault_of_acts(
     requires inside { IsTrue (list_all (is_of (length problem.now.actions)) acts.now) }
     requires small { IsTrue (list_all is_small acts.now) }
     requires few { length acts.now < 2 ^ 31 }
-    ensures { IfOk result (λ r. MatchOption r (AreActsWhole problem.now limits.now acts.now) (IsActsFault problem.now limits.now acts.now)) }
+    ensures { IfOk result (λ r. MatchOption r (AreActsWhole problem.now limits.now acts.now)
+        (IsActsFault problem.now limits.now acts.now)) }
 {
     if acts.len() > limits.actions as usize {
         let acts = acts.len() as u32;

@@ -6,7 +6,7 @@ ghost use Rattle.plan_validator.specs.Acts.{is_of};
 ghost use Rattle.plan_validator.specs.Standings.{item_of, front_at, behind_at, AreStandings};
 ghost use Rattle.plan_validator.specs.Course.{IsCourse};
 
-use crate::running::{later, let_go, take_in};
+use crate::running::{drop_ended, later, take_in};
 use crate::standings::{Place, Standing};
 use crate::tick::{Judged, judge_tick};
 use snap_actions::items_of;
@@ -14,8 +14,9 @@ use std::alloc::Global;
 use tp_spec::{Item, NoMemory, Problem, Timed};
 use world_state::initial;
 
-/// Judges a plan's ticks up to its end, happening by happening: between two of them nothing changes and nothing begins
-/// to run. The running acts are kept from one to the next, so that none goes over all acts.
+/// Judges a plan's ticks up to its end, happening by happening: between two of them nothing changes
+/// and nothing begins to run. The running acts are kept from one to the next, so that none goes
+/// over all acts.
 ///
 /// PDDL 2.1, section 6 (the trace of a plan).
 pub(crate) fn judge_course(
@@ -41,7 +42,7 @@ pub(crate) fn judge_course(
             return Ok(Judged::Passed(state));
         }
         let here = items_at(alloc, rest, tick)?;
-        let_go(&mut running, tick);
+        drop_ended(&mut running, tick);
         take_in(problem, &mut running, coming, tick)?;
         coming = later(coming, tick);
         match judge_tick(alloc, problem, &tables, &running, tick, &here, &state)? {

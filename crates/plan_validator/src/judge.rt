@@ -16,10 +16,11 @@ use std::alloc::Global;
 use tp_spec::{Limits, NoMemory, Plan, Problem, Timed};
 use world_state::{State, holds};
 
-/// Whether a plan is valid, or else the first of its parts that is broken: its number of acts; two starts of one action
-/// at a tick; a length; two acts of one action that overlap; its end; then, tick by tick, two items that interfere, an
-/// item's own conditions, a fluent that leaves 64 bits, an invariant of an action that runs; then its goal. It visits
-/// only the ticks at which something happens.
+/// Whether a plan is valid, or else the first of its parts that is broken: its number of acts; two
+/// starts of one action at a tick; a length; two acts of one action that overlap; its end; then,
+/// tick by tick, two items that interfere, an item's own conditions, a fluent that leaves 64 bits,
+/// an invariant of an action that runs; then its goal. It visits only the ticks at which something
+/// happens.
 ///
 /// PDDL 2.1, section 6 (plan validity); the order of the parts is this project's own.
 pub fn validate(
@@ -51,10 +52,13 @@ pub fn validate(
     }
 }
 
-/// Whether a plan ends at 0 or at a happening, no later than the horizon, and no earlier than any act.
+/// Whether a plan ends at 0 or at a happening, no later than the horizon, and no earlier than any
+/// act.
 fn ends_well(limits: &Limits, acts: &[Timed], end: u64, standings: &[Standing]) -> bool
     requires { IsTrue (list_all is_small acts.now) }
-    ensures { result ≡ ((end == 0 || list_any (λ x. x.tick == end) standings.now) && nat_le end limits.now.horizon && list_all (λ x. nat_le (x.start + x.length) end) acts.now) }
+    ensures { result ≡ ((end == 0 || list_any (λ x. x.tick == end) standings.now)
+        && nat_le end limits.now.horizon
+        && list_all (λ x. nat_le (x.start + x.length) end) acts.now) }
 {
     (end == 0 || happens_at(standings, end)) && end <= limits.horizon && all_ended(acts, end)
 }
@@ -82,7 +86,8 @@ fn all_ended(acts: &[Timed], end: u64) -> bool
 
 /// The first part of the goal that does not hold in a state.
 fn first_unmet_part(problem: &Problem, state: &State) -> Option<u32>
-    ensures { MatchOption result (IsTrue (list_all (holds_in (meaning state.now)) problem.now.goal)) (λ part. position (λ c. not (holds_in (meaning state.now) c)) problem.now.goal ≡ Some part) }
+    ensures { MatchOption result (IsTrue (list_all (holds_in (meaning state.now)) problem.now.goal))
+        (λ part. position (λ c. not (holds_in (meaning state.now) c)) problem.now.goal ≡ Some part) }
 {
     for (part, cond) in problem.goal.as_slice().iter().enumerate() {
         if !holds(state, cond) {

@@ -8,8 +8,6 @@ mod judge;
 mod laws;
 mod running;
 mod standings;
-#[cfg(test)]
-mod tests;
 mod tick;
 mod verdict;
 

@@ -7,8 +7,8 @@ ghost use Rattle.plan_validator.specs.Watched.{is_over as is_over_at, is_watched
 use crate::tick::invariants_of;
 use tp_spec::{NoMemory, Problem, Timed};
 
-/// Lets go of the acts that ended by a tick.
-pub(crate) fn let_go(running: &mut Vec<Timed>, tick: u64)
+/// Removes the acts that ended by a tick.
+pub(crate) fn drop_ended(running: &mut Vec<Timed>, tick: u64)
     ensures { running.new.items ≡ filter (λ x. not (is_over_at tick x)) running.old.items }
 {
     running.retain(|act| !is_over(*act, tick));
@@ -28,7 +28,8 @@ pub(crate) fn take_in(
     coming: &[Timed],
     tick: u64,
 ) -> Result<(), NoMemory>
-    ensures { OnOk result (running.new.items ≡ running.old.items ++ filter (is_watched problem.now) (begun_at tick coming.now)) }
+    ensures { OnOk result (running.new.items ≡ running.old.items
+        ++ filter (is_watched problem.now) (begun_at tick coming.now)) }
 {
     let mut rest = coming;
     while let [act, tail @ ..] = rest {

@@ -52,7 +52,10 @@ fn put_in_order(standings: &mut Vec<Standing>)
 
 /// Adds all timed items.
 fn push_timed(standings: &mut Vec<Standing>, problem: &Problem) -> Result<(), NoMemory>
-    ensures { OnOk result ((t : ℕ) (i : Item) → has_standing standings.new.items t i ≡ (has_standing standings.old.items t i || stands_timed problem.now (length problem.now.timed) t i)) }
+    ensures { OnOk result ((t : ℕ) (i : Item)
+        → has_standing standings.new.items t i
+        ≡ (has_standing standings.old.items t i
+        || stands_timed problem.now (length problem.now.timed) t i)) }
 {
     for (index, item) in problem.timed.as_slice().iter().enumerate() {
         let place = Place::Fixed(index as u32);
@@ -68,7 +71,9 @@ fn push_acts(
     acts: &[Timed],
 ) -> Result<(), NoMemory>
     requires { IsTrue (list_all is_small acts.now) }
-    ensures { OnOk result ((t : ℕ) (i : Item) → has_standing standings.new.items t i ≡ (has_standing standings.old.items t i || stands_by problem.now acts.now t i)) }
+    ensures { OnOk result ((t : ℕ) (i : Item)
+        → has_standing standings.new.items t i
+        ≡ (has_standing standings.old.items t i || stands_by problem.now acts.now t i)) }
 {
     for act in acts {
         push_act(standings, problem, *act)?;
@@ -79,7 +84,9 @@ fn push_acts(
 /// Adds the start of an act, and its end where it is durative.
 fn push_act(standings: &mut Vec<Standing>, problem: &Problem, act: Timed) -> Result<(), NoMemory>
     requires { IsTrue (is_small act) }
-    ensures { OnOk result ((t : ℕ) (i : Item) → has_standing standings.new.items t i ≡ (has_standing standings.old.items t i || stands_by problem.now (act ∷ []) t i)) }
+    ensures { OnOk result ((t : ℕ) (i : Item)
+        → has_standing standings.new.items t i
+        ≡ (has_standing standings.old.items t i || stands_by problem.now (act ∷ []) t i)) }
 {
     let Timed {
         action,
@@ -108,7 +115,10 @@ fn has_end(problem: &Problem, action: u32) -> bool
 }
 
 fn push(standings: &mut Vec<Standing>, tick: u64, place: Place) -> Result<(), NoMemory>
-    ensures { OnOk result ((t : ℕ) (i : Item) → has_standing standings.new.items t i ≡ (has_standing standings.old.items t i || has_standing (record { tick = tick; place = place } ∷ []) t i)) }
+    ensures { OnOk result ((t : ℕ) (i : Item)
+        → has_standing standings.new.items t i
+        ≡ (has_standing standings.old.items t i
+        || has_standing (record { tick = tick; place = place } ∷ []) t i)) }
 {
     match standings.push(Standing { tick, place }) {
         Ok(()) => Ok(()),

@@ -28,9 +28,10 @@ pub(crate) enum Judged {
     Passed(State),
 }
 
-/// Judges one happening: whether two items interfere, whether each item's own conditions hold before, whether there is a
-/// state after, and whether the invariants of what runs hold in it. Of the acts it is passed those that run. What it
-/// answers is so for each plan in which this is what stands at the tick, what runs, and the state before.
+/// Judges one happening: whether two items interfere, whether each item's own conditions hold
+/// before, whether there is a state after, and whether the invariants of what runs hold in it. Of
+/// the acts it is passed those that run. What it answers is so for each plan in which this is what
+/// stands at the tick, what runs, and the state before.
 ///
 /// PDDL 2.1, section 6 (plan validity).
 pub(crate) fn judge_tick(
@@ -46,7 +47,10 @@ pub(crate) fn judge_tick(
     requires inside { IsTrue (list_all (is_item_of problem.now) here.now) }
     requires different { IsTrue (each_pair (λ i j. not (same_item i j)) here.now) }
     requires of_problem { IsStateOf problem.now state.now }
-    ensures { IfOk result (λ r. (acts : List Timed) → here.now ≡ happening problem.now acts tick → AreRunning problem.now acts tick running.now → state_before problem.now acts tick ≡ Some (meaning state.now) → IsJudged problem.now acts tick r) }
+    ensures { IfOk result (λ r. (acts : List Timed) → here.now ≡ happening problem.now acts tick
+        → AreRunning problem.now acts tick running.now
+        → state_before problem.now acts tick ≡ Some (meaning state.now)
+        → IsJudged problem.now acts tick r) }
 {
     if let Some((a, b)) = first_clash(tables, here) {
         return Ok(Judged::Fault(Verdict::Clash { tick, a, b }));
@@ -66,7 +70,8 @@ pub(crate) fn judge_tick(
 
 /// The first two items that interfere: the first of them, and then the first one behind it.
 fn first_clash(tables: &Items, here: &[Item]) -> Option<(Item, Item)>
-    ensures { (p : Ground) → AreTables p tables.now → result ≡ find (λ x. interferes p x.0 x.1) (pairs here.now) }
+    ensures { (p : Ground) → AreTables p tables.now
+        → result ≡ find (λ x. interferes p x.0 x.1) (pairs here.now) }
 {
     let mut rest = here;
     while let [first, behind @ ..] = rest {
@@ -80,7 +85,8 @@ fn first_clash(tables: &Items, here: &[Item]) -> Option<(Item, Item)>
 
 /// The first item that interferes with this one.
 fn first_against(tables: &Items, item: Item, others: &[Item]) -> Option<Item>
-    ensures { (p : Ground) → AreTables p tables.now → result ≡ find (λ x. interferes p item x) others.now }
+    ensures { (p : Ground) → AreTables p tables.now
+        → result ≡ find (λ x. interferes p item x) others.now }
 {
     let mut rest = others;
     while let [first, behind @ ..] = rest {
@@ -144,9 +150,12 @@ fn fluent_over(
     }
 }
 
-/// The first action, by its number, that runs at a tick with an invariant that does not hold in a state.
+/// The first action, by its number, that runs at a tick with an invariant that does not hold in a
+/// state.
 fn first_broken(problem: &Problem, acts: &[Timed], tick: u64, state: &State) -> Option<u32>
-    ensures { MatchOption result ((a : ℕ) → is_broken_in problem.now acts.now tick (meaning state.now) a ≡ false) (IsFirstBroken problem.now acts.now tick (meaning state.now)) }
+    ensures { MatchOption result ((a : ℕ)
+        → is_broken_in problem.now acts.now tick (meaning state.now) a
+        ≡ false) (IsFirstBroken problem.now acts.now tick (meaning state.now)) }
 {
     let mut first = None;
     for act in acts {

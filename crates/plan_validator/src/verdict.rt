@@ -1,6 +1,7 @@
 use tp_spec::Item;
 
-/// What a plan is found to be: valid, or the first of its parts that is broken, in the order of the cases below.
+/// What a plan is found to be: valid, or the first of its parts that is broken, in the order of the
+/// cases below.
 ///
 /// PDDL 2.1, section 6 (plan validity); the order is this project's own.
 #[derive(Clone, Copy, Debug, PartialEq, Eq)]

@@ -22,8 +22,7 @@ use Rattle.open_tree.specs.Jobs.{IsJobOf, AreSprouts}
 use Rattle.open_tree.specs.JobViews.{view_of}
 use Rattle.open_tree.specs.Turns.{has_outcome, is_outcome}
 use Rattle.open_tree.specs.Views.{JobView, SproutsView, TreeView}
-use Rattle.open_tree.proofs.Held.{end-append, legal-parts}
-use Rattle.open_tree.proofs.Runs.{tree-of, in-filter, taken-id}
+use Rattle.tp_laws.proofs.Runs.{end-append, legal-parts, tree-of, in-filter, taken-id}
 use Rattle.open_tree.proofs.Standing.{over-of}
 use Rattle.run_cli.specs.OneWorker.{IsRested, HasTaken, IsSearching, IsHolding, IsGoing, GoesOn, HasSearched, left_of}
 use Rattle.run_cli.specs.Outcomes.{HasResult, status_of}

@@ -10,7 +10,7 @@ use Rattle.tp_spec.specs.declared.plan.Limits.{Limits}
 use Rattle.tp_spec.specs.declared.plan.Mark.{Mark}
 use Rattle.tp_spec.specs.Machine.{Machine, Node, first, step, end_of, state_of, is_open, taken_by, without, children}
 use Rattle.tp_spec.specs.Following.{IsBusy, are_busy, is_busy_turn, turn_events, last_take, took_after, serves_take, serves_merge, is_deed_on, is_take}
-use Rattle.open_tree.proofs.Held.{end-append}
+use Rattle.tp_laws.proofs.Runs.{end-append}
 use Rattle.run_cli.specs.OneWorker.{IsRested, HasTaken, is_open_or}
 
 -- a Tick ends the turn before it

@@ -27,15 +27,21 @@ assigns x (Add f) = false
 assigns x (Delete f) = false
 assigns x (Change how y e) = x == y && not (is_relative how)
 
--- what conditions ask and read, and what effects add, delete, read, increase or decrease, and assign, among the facts
--- and the fluents for which so many words have a place
-pub record AreRowsWithin (fact_words fluent_words : ℕ) (rows : ItemRows) (conds : List Cond) (does : List Effect) : Type 0 where
+-- what conditions ask and read, and what effects add, delete, read, increase or decrease, and
+-- assign, among the facts and the fluents for which so many words have a place
+pub record AreRowsWithin (fact_words fluent_words : ℕ) (rows : ItemRows) (conds : List Cond)
+    (does : List Effect) : Type 0 where
   pub asked : IsRowOf rows.asked fact_words (λ f. has_place fact_words f && list_any (asks f) conds)
   pub added : IsRowOf rows.added fact_words (λ f. has_place fact_words f && list_any (adds f) does)
-  pub deleted : IsRowOf rows.deleted fact_words (λ f. has_place fact_words f && list_any (deletes f) does)
-  pub read : IsRowOf rows.read fluent_words (λ x. has_place fluent_words x && (list_any (cond_reads x) conds || list_any (effect_reads x) does))
-  pub stepped : IsRowOf rows.stepped fluent_words (λ x. has_place fluent_words x && list_any (steps x) does)
-  pub assigned : IsRowOf rows.assigned fluent_words (λ x. has_place fluent_words x && list_any (assigns x) does)
+  pub deleted : IsRowOf rows.deleted fact_words
+      (λ f. has_place fact_words f && list_any (deletes f) does)
+  pub read : IsRowOf rows.read fluent_words
+      (λ x. has_place fluent_words x
+      && (list_any (cond_reads x) conds || list_any (effect_reads x) does))
+  pub stepped : IsRowOf rows.stepped fluent_words
+      (λ x. has_place fluent_words x && list_any (steps x) does)
+  pub assigned : IsRowOf rows.assigned fluent_words
+      (λ x. has_place fluent_words x && list_any (assigns x) does)
 
 -- rows of so many words with nothing in them
 pub record AreEmpty (fact_words fluent_words : ℕ) (rows : ItemRows) : Type 0 where
@@ -66,7 +72,9 @@ pub record TookEffects (old new : ItemRows) (does : List Effect) : Type 0 where
 
 -- the rows of an item of a problem
 abbrev pub AreItemRows : Problem → Item → ItemRows → Type 0
-AreItemRows p i rows = AreRowsWithin (words_for (length p.facts)) (words_for (length p.fluents)) rows (conditions p i) (effects p i)
+AreItemRows p i rows =
+    AreRowsWithin (words_for (length p.facts)) (words_for (length p.fluents)) rows (conditions p i)
+    (effects p i)
 
 -- the rows of each timed item, of each end and of each start, by its number
 pub record AreTables (p : Problem) (items : Items) : Type 0 where
@@ -74,9 +82,12 @@ pub record AreTables (p : Problem) (items : Items) : Type 0 where
   pub timed_count : length items.timed.items ≡ length p.timed
   pub end_count : length items.ends.items ≡ length p.actions
   pub start_count : length items.starts.items ≡ length p.actions
-  pub timed : (k : ℕ) (rows : ItemRows) → slice_get items.timed.items k ≡ Some rows → AreItemRows p (TimedAt k) rows
-  pub ends : (a : ℕ) (rows : ItemRows) → slice_get items.ends.items a ≡ Some rows → AreItemRows p (End a) rows
-  pub starts : (a : ℕ) (rows : ItemRows) → slice_get items.starts.items a ≡ Some rows → AreItemRows p (Start a) rows
+  pub timed : (k : ℕ) (rows : ItemRows) → slice_get items.timed.items k ≡ Some rows
+      → AreItemRows p (TimedAt k) rows
+  pub ends : (a : ℕ) (rows : ItemRows) → slice_get items.ends.items a ≡ Some rows
+      → AreItemRows p (End a) rows
+  pub starts : (a : ℕ) (rows : ItemRows) → slice_get items.starts.items a ≡ Some rows
+      → AreItemRows p (Start a) rows
 
 -- the rows of an item
 abbrev pub table_get : Items → Item → Option ItemRows
@@ -96,9 +107,14 @@ rows_meet a b = some_below (64 * length a) (λ f. has_bit a f && has_bit b f)
 abbrev pub meets : BitRow → BitRow → Bool
 meets a b = rows_meet a.words.items b.words.items
 
--- whether the first item's effects disturb the second one's conditions or collide with its effects, by their rows
+-- whether the first item's effects disturb the second one's conditions or collide with its effects,
+-- by their rows
 abbrev pub touch_facts : ItemRows → ItemRows → Bool
-touch_facts a b = meets a.added b.asked || meets a.deleted b.asked || meets a.added b.deleted || meets a.deleted b.added
+touch_facts a b =
+    meets a.added b.asked || meets a.deleted b.asked || meets a.added b.deleted
+    || meets a.deleted b.added
 
 abbrev pub touch_fluents : ItemRows → ItemRows → Bool
-touch_fluents a b = meets a.stepped b.read || meets a.assigned b.read || meets a.stepped b.assigned || meets a.assigned b.stepped || meets a.assigned b.assigned
+touch_fluents a b =
+    meets a.stepped b.read || meets a.assigned b.read || meets a.stepped b.assigned
+    || meets a.assigned b.stepped || meets a.assigned b.assigned

@@ -7,9 +7,10 @@ use crate::tables::{ItemRows, Items};
 use tp_spec::Item;
 use world_state::BitRow;
 
-/// Whether two items interfere, in either direction: the one asks a fact that the other adds or deletes, adds what the
-/// other deletes, or writes a fluent that the other reads, or both write one fluent and not both by increase or
-/// decrease. It takes the time of the items' rows. An item that the problem does not have interferes with none.
+/// Whether two items interfere, in either direction: the one asks a fact that the other adds or
+/// deletes, adds what the other deletes, or writes a fluent that the other reads, or both write one
+/// fluent and not both by increase or decrease. It takes the time of the items' rows. An item that
+/// the problem does not have interferes with none.
 ///
 /// PDDL 2.1, section 6 ('no moving targets'); the part on fluents is this project's own.
 pub fn interfere(items: &Items, a: Item, b: Item) -> bool

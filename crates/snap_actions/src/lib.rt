@@ -1,4 +1,5 @@
-//! The items of a problem, its timed items and snap actions, as tables that are made once, and which of them interfere.
+//! The items of a problem, its timed items and snap actions, as tables that are made once, and
+//! which of them interfere.
 #![tactic(auto)]
 
 mod interference;
@@ -6,6 +7,3 @@ mod tables;
 
 pub use interference::interfere;
 pub use tables::{Items, items_of};
-
-#[cfg(test)]
-mod tests;

@@ -8,10 +8,11 @@ ghost use Rattle.snap_actions.specs.Tables.{table_get, AreEmpty, AreItemRows, Ar
 
 use std::alloc::Global;
 use tp_spec::{Cond, Effect, Expr, How, Item, NoMemory, Problem, TimedItem};
-use world_state::{BitRow, keeps_the_rules};
+use world_state::BitRow;
 
-/// What one item asks, reads and does: rows of facts that its conditions ask and its effects add and delete, and rows
-/// of fluents that its conditions and right sides read, that it increases or decreases, and that it assigns.
+/// What one item asks, reads and does: rows of facts that its conditions ask and its effects add
+/// and delete, and rows of fluents that its conditions and right sides read, that it increases or
+/// decreases, and that it assigns.
 #[derive(Debug, Drop)]
 pub(crate) struct ItemRows {
     pub(crate) asked: BitRow,
@@ -22,7 +23,8 @@ pub(crate) struct ItemRows {
     pub(crate) assigned: BitRow,
 }
 
-/// The rows of each item of a problem: its timed items, the ends and the starts of its actions, each by its number.
+/// The rows of each item of a problem: its timed items, the ends and the starts of its actions,
+/// each by its number.
 #[derive(Debug, Drop)]
 pub struct Items {
     timed: Vec<ItemRows>,
@@ -34,7 +36,7 @@ pub struct Items {
 pub fn items_of(alloc: Global, problem: &Problem) -> Result<Items, NoMemory>
     ensures { IfOk result (λ t. AreTables problem.now t) }
 {
-    keeps_the_rules(problem);
+    problem.keeps_the_rules();
     let timed = rows_of_timed(alloc, problem)?;
     let ends = rows_of_ends(alloc, problem)?;
     let starts = rows_of_starts(alloc, problem)?;
@@ -61,7 +63,8 @@ impl Items {
 /// The rows of each timed item.
 fn rows_of_timed(alloc: Global, problem: &Problem) -> Result<Vec<ItemRows>, NoMemory>
     ensures len { IfOk result (λ v. length v.items ≡ length problem.now.timed) }
-    ensures each { IfOk result (λ v. (k : ℕ) (rows : ItemRows) → slice_get v.items k ≡ Some rows → AreItemRows problem.now (Item.TimedAt k) rows) }
+    ensures each { IfOk result (λ v. (k : ℕ) (rows : ItemRows) → slice_get v.items k ≡ Some rows
+        → AreItemRows problem.now (Item.TimedAt k) rows) }
 {
     let facts = problem.facts.as_slice().len();
     let fluents = problem.fluents.as_slice().len();
@@ -76,7 +79,8 @@ fn rows_of_timed(alloc: Global, problem: &Problem) -> Result<Vec<ItemRows>, NoMe
 /// The rows of the end of each action.
 fn rows_of_ends(alloc: Global, problem: &Problem) -> Result<Vec<ItemRows>, NoMemory>
     ensures len { IfOk result (λ v. length v.items ≡ length problem.now.actions) }
-    ensures each { IfOk result (λ v. (a : ℕ) (rows : ItemRows) → slice_get v.items a ≡ Some rows → AreItemRows problem.now (Item.End a) rows) }
+    ensures each { IfOk result (λ v. (a : ℕ) (rows : ItemRows) → slice_get v.items a ≡ Some rows
+        → AreItemRows problem.now (Item.End a) rows) }
 {
     let facts = problem.facts.as_slice().len();
     let fluents = problem.fluents.as_slice().len();
@@ -93,7 +97,8 @@ fn rows_of_ends(alloc: Global, problem: &Problem) -> Result<Vec<ItemRows>, NoMem
 /// The rows of the start of each action.
 fn rows_of_starts(alloc: Global, problem: &Problem) -> Result<Vec<ItemRows>, NoMemory>
     ensures len { IfOk result (λ v. length v.items ≡ length problem.now.actions) }
-    ensures each { IfOk result (λ v. (a : ℕ) (rows : ItemRows) → slice_get v.items a ≡ Some rows → AreItemRows problem.now (Item.Start a) rows) }
+    ensures each { IfOk result (λ v. (a : ℕ) (rows : ItemRows) → slice_get v.items a ≡ Some rows
+        → AreItemRows problem.now (Item.Start a) rows) }
 {
     let facts = problem.facts.as_slice().len();
     let fluents = problem.fluents.as_slice().len();
@@ -140,7 +145,8 @@ impl ItemRows {
         conds: &[Cond],
         effects: &[Effect],
     ) -> Result<ItemRows, NoMemory>
-        ensures { IfOk result (λ r. AreRowsWithin (words_for facts) (words_for fluents) r conds.now effects.now) }
+        ensures { IfOk result (λ r. AreRowsWithin (words_for facts) (words_for fluents) r conds.now
+            effects.now) }
     {
         let mut rows = ItemRows::empty(alloc, facts, fluents)?;
         rows.ask_all(conds);
@@ -155,7 +161,8 @@ impl ItemRows {
         fluents: usize,
         timed: &TimedItem,
     ) -> Result<ItemRows, NoMemory>
-        ensures { IfOk result (λ r. AreRowsWithin (words_for facts) (words_for fluents) r [] (timed_effects timed.now)) }
+        ensures { IfOk result (λ r. AreRowsWithin (words_for facts) (words_for fluents) r []
+            (timed_effects timed.now)) }
     {
         let mut rows = ItemRows::empty(alloc, facts, fluents)?;
         rows.added.insert_each(timed.adds.as_slice());
@@ -165,7 +172,8 @@ impl ItemRows {
 
     /// Takes in what conditions ask and read.
     fn ask_all(&mut self, conds: &[Cond])
-        ensures { TookConds self.old self.new (λ f. list_any (asks f) conds.now) (λ x. list_any (cond_reads x) conds.now) }
+        ensures { TookConds self.old self.new (λ f. list_any (asks f) conds.now)
+            (λ x. list_any (cond_reads x) conds.now) }
     {
         for cond in conds {
             self.ask(cond);

@@ -20,3 +20,5 @@ pub mod ClockCandidates
 pub mod ClockLaws
 pub mod ClockCommits
 pub mod ClockActs
+pub mod Runs
+pub mod StartMarks

@@ -2,3 +2,5 @@ pub mod Examples
 pub mod Laws
 pub mod Early
 pub mod Clocks
+pub mod Histories
+pub mod Starts

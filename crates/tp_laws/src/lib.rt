@@ -5,7 +5,9 @@
 mod clocks;
 mod early;
 mod examples;
+mod histories;
 mod laws;
+mod starts;
 
 pub use clocks::{acts_of_sound_words, earlier_clocks, one_tick_tells};
 pub use early::{covered_plans, live_marks, live_words, plain_problems, plans_of_words};
@@ -13,4 +15,6 @@ pub use examples::{
     busy_histories, goal_at_start, invariants_given_together, printed_texts, spelled_words,
     states_after, unsafe_plans,
 };
+pub use histories::{histories_in_parts, states_of_runs, takes_of_nodes};
 pub use laws::{end_of_word, nothing_happens, order_of_items, states_read};
+pub use starts::live_starts;

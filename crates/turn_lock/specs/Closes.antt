@@ -4,8 +4,10 @@ use mathlib.Core.List.{IsPrefix}
 use Rattle.turn_lock.specs.declared.rule.View.{View}
 use Rattle.turn_lock.specs.Turns.{Covers}
 
-module _ {V E : Type 0} (entries : V → List E) (same : V → V → Type 0) (opened : V) (v : View V E) where
-  -- a value under the charter that the lock was opened with, whose entries begin with what the seat has seen and are, behind those at the opening, the turns made
+module _ {V E : Type 0} (entries : V → List E) (same : V → V → Type 0) (opened : V)
+    (v : View V E) where
+  -- a value under the charter that the lock was opened with, whose entries begin with what the seat
+  -- has seen and are, behind those at the opening, the turns made
   pub record Closes (value : V) : Type 0 where
     pub longer : IsPrefix v.seen (entries value)
     pub charter : same opened value

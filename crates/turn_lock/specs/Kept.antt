@@ -24,20 +24,32 @@ slot_of (Some v) = maybe.some (Some v)
 module _ {V E : Type 0} where
   -- the view of the first seat
   abbrev pub first_view : (V → List E) → V → ℕ → View V E
-  first_view entries v parts = record { opened = Some v; parts = parts; stage = Idle; seen = entries v; joined = []; made = [] ∷ [] }
+  first_view entries v parts =
+      record {
+        opened = Some v;
+        parts = parts;
+        stage = Idle;
+        seen = entries v;
+        joined = [];
+        made = [] ∷ [];
+      }
 
   -- the view of a seat that was joined to another
   abbrev pub spent_view : View V E
   spent_view = record { opened = None; parts = 0; stage = Idle; seen = []; joined = []; made = [] }
 
-  -- what a stage says of the seat: `done` is the ticket served, `drawn` the next one, and `holder` says which seat has a ticket
+  -- what a stage says of the seat: `done` is the ticket served, `drawn` the next one, and `holder`
+  -- says which seat has a ticket
   abbrev pub StageKept : (List E) → ℕ → ℕ → (ℕ → ℕ) → Option V → ℕ → View V E → Stage → Type 0
   StageKept log done drawn holder home seat v Idle = Unit {0}
-  StageKept log done drawn holder home seat v (Waiting t) = (done ≤ t) × (t < drawn) × (holder t ≡ seat) × (0 < v.parts) × (t ≡ done → IsSome home)
-  StageKept log done drawn holder home seat v (Serving t) = (t ≡ done) × (t < drawn) × (holder t ≡ seat) × (0 < v.parts) × (home ≡ None) × (v.seen ≡ log)
+  StageKept log done drawn holder home seat v (Waiting t) =
+      (done ≤ t) × (t < drawn) × (holder t ≡ seat) × (0 < v.parts) × (t ≡ done → IsSome home)
+  StageKept log done drawn holder home seat v (Serving t) =
+      (t ≡ done) × (t < drawn) × (holder t ≡ seat) × (0 < v.parts) × (home ≡ None) × (v.seen ≡ log)
 
   -- what each seat knows is so
-  pub record Knows (opened : V) (log : List E) (done drawn : ℕ) (holder : ℕ → ℕ) (home : Option V) (seat : ℕ) (v : View V E) : Type 0 where
+  pub record Knows (opened : V) (log : List E) (done drawn : ℕ) (holder : ℕ → ℕ) (home : Option V)
+      (seat : ℕ) (v : View V E) : Type 0 where
     pub of : (o : V) → v.opened ≡ Some o → o ≡ opened
     pub seen : IsPrefix v.seen log
     pub joined : IsPrefix v.joined log
@@ -45,9 +57,11 @@ module _ {V E : Type 0} where
     pub none : v.parts ≡ 0 → v.made ≡ []
     pub stage : StageKept log done drawn holder home seat v v.stage
 
-  -- the words, the slot and the views between two steps: `log` is the one list that every seat has seen a beginning of, and word 0 its length.
-  -- Tickets are counted without end, words 1 and 2 modulo 2^64. Each position behind the entries at the opening stands in one stretch of one seat
-  pub record Kept (entries : V → List E) (same : V → V → Type 0) (opened : V) (parts : ℕ) (s : State (Option V) (View V E)) : Type 0 where
+  -- the words, the slot and the views between two steps: `log` is the one list that every seat has
+  -- seen a beginning of, and word 0 its length. Tickets are counted without end, words 1 and 2
+  -- modulo 2^64. Each position behind the entries at the opening stands in one stretch of one seat
+  pub record Kept (entries : V → List E) (same : V → V → Type 0) (opened : V) (parts : ℕ)
+      (s : State (Option V) (View V E)) : Type 0 where
     pub log : List E
     pub done : ℕ
     pub drawn : ℕ
@@ -63,6 +77,8 @@ module _ {V E : Type 0} where
     pub lent : home ≡ None → done < drawn
     pub waits : drawn ≡ done + sum_by (λ v. busy v.stage) s.views
     pub whole : sum_by (λ v. v.parts) s.views ≡ parts
-    pub covered : (x : ℕ) → sum_by (λ v. stands_in x v.made) s.views ≡ once (length (entries opened)) (length log) x
+    pub covered : (x : ℕ) → sum_by (λ v. stands_in x v.made) s.views
+        ≡ once (length (entries opened)) (length log) x
     pub longer : length (entries opened) ≤ length log
-    pub each : (seat : ℕ) (v : View V E) → get_elem? s.views seat ≡ maybe.some v → Knows opened log done drawn holder home seat v
+    pub each : (seat : ℕ) (v : View V E) → get_elem? s.views seat ≡ maybe.some v
+        → Knows opened log done drawn holder home seat v

@@ -29,7 +29,8 @@ module _ {V E : Type 0} where
   abbrev pub seen : Seat V E → List E
   seen seat = seat.place.me.0.seen
 
-  -- the turns that a seat and the seats joined to it made: a group of stretches for each, its own first
+  -- the turns that a seat and the seats joined to it made: a group of stretches for each, its own
+  -- first
   abbrev pub made : Seat V E → List (List Stretch)
   made seat = seat.place.me.0.made
 
@@ -55,7 +56,8 @@ module _ {V E : Type 0} where
     pub free : seat.place.me.1 ≡ []
 
   -- the value is held of this lock: its turn has come
-  pub record IsHeldOf (entries : V → List E) (same : V → V → Type 0) (lock : Turn V E) (held : Held V E) : Type 0 where
+  pub record IsHeldOf (entries : V → List E) (same : V → V → Type 0) (lock : Turn V E)
+      (held : Held V E) : Type 0 where
     pub table : held.place.table_id ≡ lock.table.shared.table_id
     pub opening : held.place.me.0.opened ≡ Some (opened lock)
     pub parts : held.place.me.0.parts ≡ held.parts

@@ -40,11 +40,25 @@ module _ {V E : Type 0} where
 
   -- the view of the seat that was given them
   abbrev pub given : ℕ → View V E → View V E
-  given parts v = record { opened = v.opened; parts = parts; stage = Idle; seen = v.seen; joined = []; made = [] ∷ [] }
+  given parts v =
+      record {
+        opened = v.opened;
+        parts = parts;
+        stage = Idle;
+        seen = v.seen;
+        joined = [];
+        made = [] ∷ [];
+      }
 
   -- the view of two seats joined
   abbrev pub both : View V E → View V E → View V E
-  both v w = record v { parts = v.parts + w.parts; seen = longer v.seen w.seen; joined = shorter v.seen w.seen; made = v.made ++ w.made }
+  both v w =
+      record v {
+        parts = v.parts + w.parts;
+        seen = longer v.seen w.seen;
+        joined = shorter v.seen w.seen;
+        made = v.made ++ w.made;
+      }
 
   -- the view at another stage
   abbrev pub at_stage : View V E → Stage → View V E
@@ -62,16 +76,21 @@ module _ {V E : Type 0} where
   abbrev pub Draws : Me (Option V) (View V E) → ℕ → Me (Option V) (View V E) → Type 0
   Draws m r n = (t : ℕ) × (r ≡ word_of t) × (n ≡ (at_stage m.0 (Waiting t), m.1))
 
-  -- the turn has begun: the seat holds the slot with a value that goes on from what it had seen, under the charter that the lock was opened with
-  pub record Taken (entries : V → List E) (same : V → V → Type 0) (m n : Me (Option V) (View V E)) : Type 0 where
+  -- the turn has begun: the seat holds the slot with a value that goes on from what it had seen,
+  -- under the charter that the lock was opened with
+  pub record Taken (entries : V → List E) (same : V → V → Type 0) (m n : Me (Option V) (View V E)) :
+      Type 0 where
     pub value : V
     pub me : n ≡ (served m.0 (entries value), (0, Some value) ∷ m.1)
     pub longer : IsPrefix m.0.seen (entries value)
     pub charter : (o : V) → m.0.opened ≡ Some o → same o value
 
   -- the turn has begun where the ticket served is the seat's, otherwise nothing changed
-  abbrev pub Looks : (V → List E) → (V → V → Type 0) → Me (Option V) (View V E) → ℕ → Me (Option V) (View V E) → Type 0
-  Looks entries same m r n = (r ≡ word_of (ticket_of m.0.stage) → Taken entries same m n) × (r ≢ word_of (ticket_of m.0.stage) → n ≡ m)
+  abbrev pub Looks : (V → List E) → (V → V → Type 0) → Me (Option V) (View V E) → ℕ
+      → Me (Option V) (View V E) → Type 0
+  Looks entries same m r n =
+      (r ≡ word_of (ticket_of m.0.stage) → Taken entries same m n)
+      × (r ≢ word_of (ticket_of m.0.stage) → n ≡ m)
 
   -- the count is the number of entries seen
   abbrev pub Counts : Me (Option V) (View V E) → ℕ → Me (Option V) (View V E) → Type 0
@@ -90,6 +109,9 @@ module _ {V E : Type 0} where
   abbrev pub Ends : Me (Option V) (View V E) → Me (Option V) (View V E) → Type 0
   Ends m n = n ≡ (at_stage m.0 Idle, rest m.1)
 
-  -- of two seats joined, the one has seen a beginning of what the other has, and together they have fewer than 2^32 parts
+  -- of two seats joined, the one has seen a beginning of what the other has, and together they have
+  -- fewer than 2^32 parts
   abbrev pub Agrees : Me (Option V) (View V E) → Me (Option V) (View V E) → Type 0
-  Agrees m n = IsPrefix m.0.joined m.0.seen × (m.0.parts < 4294967296) × (n ≡ (record m.0 { joined = [] }, m.1))
+  Agrees m n =
+      IsPrefix m.0.joined m.0.seen × (m.0.parts < 4294967296)
+      × (n ≡ (record m.0 { joined = [] }, m.1))

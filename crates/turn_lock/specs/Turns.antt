@@ -15,7 +15,8 @@ abbrev pub stands_in : ℕ → List (List Stretch) → ℕ
 stands_in x [] = 0
 stands_in x (g ∷ gs) = stands x g + stands_in x gs
 
--- the stretches follow each other: none begins before the end of the one before it, and the last ends by `end`
+-- the stretches follow each other: none begins before the end of the one before it, and the last
+-- ends by `end`
 abbrev pub Follow : ℕ → ℕ → List Stretch → Type 0
 Follow from end [] = from ≤ end
 Follow from end (t ∷ ts) = (from ≤ t.0) × (t.0 ≤ t.1) × Follow t.1 end ts
@@ -34,7 +35,8 @@ abbrev pub with_turn : List (List Stretch) → ℕ → ℕ → List (List Stretc
 with_turn [] from end = ((from, end) ∷ []) ∷ []
 with_turn (g ∷ gs) from end = (g ++ (from, end) ∷ []) ∷ gs
 
--- each position from `from` up to below `end` stands in exactly one stretch of one group, no other in any, and each group's stretches follow each other
+-- each position from `from` up to below `end` stands in exactly one stretch of one group, no other
+-- in any, and each group's stretches follow each other
 pub record Covers (from end : ℕ) (made : List (List Stretch)) : Type 0 where
   pub once_each : (x : ℕ) → stands_in x made ≡ once from end x
   pub in_order : FollowEach end made

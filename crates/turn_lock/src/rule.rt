@@ -1,5 +1,5 @@
-//! The table under the lock. Word 0 counts the entries, word 1 is the next ticket and word 2 the ticket served, both modulo 2^64.
-//! Slot 0 holds the value, or nothing while a seat has its turn.
+//! The table under the lock. Word 0 counts the entries, word 1 is the next ticket and word 2 the
+//! ticket served, both modulo 2^64. Slot 0 holds the value, or nothing while a seat has its turn.
 use crate::story::Story;
 use atomic_table::{Seat as TableSeat, Shared as TableShared, TableRule};
 use std::collections::LinkedList;
@@ -22,7 +22,8 @@ pub struct View<V, E> {
     pub seen: LinkedList<E>,
     /// What a seat that was just joined had seen.
     pub joined: LinkedList<E>,
-    /// The turns that it and the seats joined to it made, each a stretch of positions, in a group for each seat.
+    /// The turns that it and the seats joined to it made, each a stretch of positions, in a group
+    /// for each seat.
     pub made: LinkedList<LinkedList<(u64, u64)>>,
 }
 

@@ -18,8 +18,10 @@ fn cut<V: Story, A: Amount>(table: &Shared<V>, place: &mut Place<V>, parts: u32)
     requires lock { (place.old.table_id ≡ table.now.table_id) × (table.now.table_id.words ≡ 3) }
     requires idle { place.old.me.0.stage ≡ Idle }
     requires parts { (0 < parts) × (parts < place.old.me.0.parts) × (parts ≡ A.amount) }
-    ensures left { (place.new.table_id ≡ place.old.table_id) × (place.new.me ≡ (less parts place.old.me.0, place.old.me.1)) }
-    ensures right { (result.table_id ≡ place.old.table_id) × (result.me ≡ (given parts place.old.me.0, [])) }
+    ensures left { (place.new.table_id ≡ place.old.table_id)
+        × (place.new.me ≡ (less parts place.old.me.0, place.old.me.1)) }
+    ensures right { (result.table_id ≡ place.old.table_id)
+        × (result.me ≡ (given parts place.old.me.0, [])) }
 {
     table.split_seat::<Cut<A>>(place)
 }
@@ -34,7 +36,8 @@ impl<V: Story> Seat<V> {
 }
 
 impl<V: Story> Turn<V> {
-    /// Two seats from one: the second has `parts` of its parts, has seen as much and has made nothing yet.
+    /// Two seats from one: the second has `parts` of its parts, has seen as much and has made
+    /// nothing yet.
     pub fn split(&self, seat: Seat<V>, parts: u32) -> (Seat<V>, Seat<V>)
         requires seat { IsSeatOf self.now seat }
         requires parts { (1 ≤ parts) × (parts < parts_of seat) }
@@ -56,7 +59,8 @@ impl<V: Story> Turn<V> {
         (left, right)
     }
 
-    /// One seat from two. It has seen the longer list, which begins with both, and keeps the turns of both apart.
+    /// One seat from two. It has seen the longer list, which begins with both, and keeps the turns
+    /// of both apart.
     pub fn join(&self, into: Seat<V>, other: Seat<V>) -> Seat<V>
         requires into { IsSeatOf self.now into }
         requires other { IsSeatOf self.now other }
@@ -77,13 +81,15 @@ impl<V: Story> Turn<V> {
         }
     }
 
-    /// The value. Its entries begin with what the seat has seen, and behind those at `new` they are the turns that the seats made.
+    /// The value. Its entries begin with what the seat has seen, and behind those at `new` they are
+    /// the turns that the seats made.
     pub fn close(self, seat: Seat<V>) -> V
         requires seat { IsSeatOf self seat }
         requires all { parts_of seat ≡ all_parts self }
         ensures longer { IsPrefix (seen seat) (V.entries result) }
         ensures charter { V.same_charter (opened self) result }
-        ensures turns { Covers (length (V.entries (opened self))) (length (V.entries result)) (made seat) }
+        ensures turns { Covers (length (V.entries (opened self))) (length (V.entries result))
+            (made seat) }
     {
         let Turn { table } = self;
         let (_, place) = seat.take_apart();

@@ -34,7 +34,8 @@ pub(crate) fn draw<V: Story>(table: &Shared<V>, place: &mut Place<V>) -> u64
     table.fetch_add::<Draw>(place, NEXT, 1)
 }
 
-// The next in line looks a few times more. Then it leaves the processor to others, as all those behind it do at once.
+// The next in line looks a few times more. Then it leaves the processor to others, as all those
+// behind it do at once.
 fn pause<V: Story>(table: &Shared<V>, ticket: u64, served: u64)
     requires { table.now.table_id.words ≡ 3 }
 {

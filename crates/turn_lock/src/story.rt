@@ -1,6 +1,7 @@
 ghost use Rattle.std.specs.Prelude.{◌≡◌, ◌<◌, ◌^◌, List, length};
 
-/// A value that stands for a list of entries, and has a charter: a part that nobody changes under a lock.
+/// A value that stands for a list of entries, and has a charter: a part that nobody changes under a
+/// lock.
 pub trait Story {
     type Entry;
 

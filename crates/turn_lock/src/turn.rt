@@ -13,8 +13,8 @@ pub struct Turn<V: Story> {
     ghost sized: { (table.shared.table_id.words ≡ 3) × (table.shared.table_id.slots ≡ 1) },
 }
 
-/// What one thread enters the lock with. It knows the entries that it has seen and the turns that it made.
-/// A seat that is dropped takes its parts with it, and the lock can no longer be closed.
+/// What one thread enters the lock with. It knows the entries that it has seen and the turns that
+/// it made. A seat that is dropped takes its parts with it, and the lock can no longer be closed.
 pub struct Seat<V: Story> {
     pub(crate) parts: u32,
     pub(crate) place: Place<V>,
@@ -50,7 +50,8 @@ fn needs_sync<T: Sync>(_shared: &T) {}
 
 fn needs_send<T: Send>(_moved: &T) {}
 
-// Where the value may go from thread to thread, threads may share the lock, and a seat may go from one to another.
+// Where the value may go from thread to thread, threads may share the lock, and a seat may go from
+// one to another.
 fn crosses<V: Story + Send>(lock: &Turn<V>, seat: &Seat<V>) {
     needs_sync(lock);
     needs_send(lock);

@@ -46,13 +46,15 @@ fn only<V>(mut slots: Vec<Option<V>>) -> V
 }
 
 impl<V: Story> Turn<V> {
-    /// A lock over the value, and the seat that holds all its parts and has seen the value's entries.
-    /// At `Err` memory was refused, and the value comes back.
+    /// A lock over the value, and the seat that holds all its parts and has seen the value's
+    /// entries. At `Err` memory was refused, and the value comes back.
     pub fn new(alloc: Global, value: V, parts: u32) -> Result<(Turn<V>, Seat<V>), (NoMemory, V)>
         requires parts { 1 ≤ parts }
         requires few { length (V.entries value) < 2 ^ 64 }
-        ensures lock { IfOk result (λ r. IsSeatOf r.0 r.1 × (opened r.0 ≡ value) × (all_parts r.0 ≡ parts)) }
-        ensures seat { IfOk result (λ r. (parts_of r.1 ≡ parts) × (seen r.1 ≡ V.entries value) × (made r.1 ≡ [] ∷ [])) }
+        ensures lock { IfOk result (λ r. IsSeatOf r.0 r.1 × (opened r.0 ≡ value)
+            × (all_parts r.0 ≡ parts)) }
+        ensures seat { IfOk result (λ r. (parts_of r.1 ≡ parts) × (seen r.1 ≡ V.entries value)
+            × (made r.1 ≡ [] ∷ [])) }
         ensures err { IfErr result (λ e. e.1 ≡ value) }
     {
         let count = value.count();
@@ -105,7 +107,9 @@ impl<V: Story> Turn<V> {
         requires charter { V.same_charter (entered held) held.value }
         ensures seat { IsSeatOf self.now result }
         ensures seen { seen result ≡ V.entries held.value }
-        ensures made { made result ≡ with_turn (made_before held) (length (V.entries (entered held))) (length (V.entries held.value)) }
+        ensures made { made result
+            ≡ with_turn (made_before held) (length (V.entries (entered held)))
+            (length (V.entries held.value)) }
         ensures parts { parts_of result ≡ parts_held held }
     {
         let Held {

@@ -17,7 +17,7 @@ use Rattle.tp_spec.specs.Items.{effects, effects_of, is_defined, timed_effects}
 use Rattle.tp_spec.specs.States.{State}
 use Rattle.world_state.specs.Happenings.{action_effects}
 use Rattle.tp_spec.specs.Lists.{part_of, some_and}
-use Rattle.tp_spec.specs.WellFormed.{Ground, IsWellFormed, is_cond, is_effect, is_action, is_timed, is_expr, names_below_at, depth}
+use Rattle.tp_spec.specs.WellFormed.{Ground, IsWellFormed, is_cond, is_effect, is_action, is_timed, is_expr, is_expr_at, depth}
 use Rattle.world_state.specs.Exact.{is_shallow, is_shallow_effect, IsExact}
 
 pub all_weaker : {A : Type 0} (p q : A → Bool) → ((x : A) → p x ≡ true → q x ≡ true) → (xs : List A) → list_all p xs ≡ true → list_all q xs ≡ true
@@ -69,8 +69,8 @@ cond_shallow facts fluents (Lit fact positive) good = refl
 cond_shallow facts fluents (Compare op left right) good =
     let sides = and_parts (is_expr fluents left) (is_expr fluents right) good in
     and_from (nat_le (depth left) 32) (nat_le (depth right) 32)
-    (and_parts (fold-Expr Bool (names_below_at fluents) left) (nat_le (depth left) 32) sides.0).1
-    (and_parts (fold-Expr Bool (names_below_at fluents) right) (nat_le (depth right) 32) sides.1).1
+    (and_parts (fold-Expr Bool (is_expr_at fluents) left) (nat_le (depth left) 32) sides.0).1
+    (and_parts (fold-Expr Bool (is_expr_at fluents) right) (nat_le (depth right) 32) sides.1).1
 
 -- conditions over the first facts and fluents are what the calls of this crate ask for
 pub conds_shallow : (facts fluents : ℕ) (cs : List Cond) → list_all (is_cond facts fluents) cs ≡ true → list_all is_shallow cs ≡ true
@@ -79,7 +79,7 @@ conds_shallow facts fluents cs = all_weaker (is_cond facts fluents) is_shallow (
 pub effect_shallow : (facts fluents : ℕ) (e : Effect) → is_effect facts fluents e ≡ true → is_shallow_effect e ≡ true
 effect_shallow facts fluents (Add f) good = refl
 effect_shallow facts fluents (Delete f) good = refl
-effect_shallow facts fluents (Change how x e) good = (and_parts (fold-Expr Bool (names_below_at fluents) e) (nat_le (depth e) 32) (and_parts (nat_lt x fluents) (is_expr fluents e) good).1).1
+effect_shallow facts fluents (Change how x e) good = (and_parts (fold-Expr Bool (is_expr_at fluents) e) (nat_le (depth e) 32) (and_parts (nat_lt x fluents) (is_expr fluents e) good).1).1
 
 pub effects_shallow : (facts fluents : ℕ) (es : List Effect) → list_all (is_effect facts fluents) es ≡ true → list_all is_shallow_effect es ≡ true
 effects_shallow facts fluents es = all_weaker (is_effect facts fluents) is_shallow_effect (effect_shallow facts fluents) es

@@ -1,4 +1,5 @@
--- What keeps sums exact in 128 bits: expressions are at most 32 operations deep, and values have 64 bits.
+-- What keeps sums exact in 128 bits: expressions are at most 32 operations deep, and values have 64
+-- bits.
 use Rattle.std.specs.Prelude.{ℕ, ℤ, pos, neg_ℤ, ◌≤ℤ◌, Bool, true, ◌&&◌, nat_le, ◌≤◌, Option, Some, None, List, length, get_or, IsTrue}
 use Rattle.std.specs.List.{list_all}
 use Rattle.tp_spec.specs.declared.problem.Action.{Action}
@@ -8,7 +9,8 @@ use Rattle.tp_spec.specs.declared.problem.Effect.{Effect}
 use Rattle.tp_spec.specs.declared.problem.Effect.TheVariants.{Add, Delete, Change}
 use Rattle.tp_spec.specs.WellFormed.{depth}
 
--- whether the expressions of a condition are at most 32 operations deep, as in each well-formed problem
+-- whether the expressions of a condition are at most 32 operations deep, as in each well-formed
+-- problem
 abbrev pub is_shallow : Cond → Bool
 is_shallow (Lit fact positive) = true
 is_shallow (Compare op left right) = nat_le (depth left) 32 && nat_le (depth right) 32

@@ -38,7 +38,8 @@ new_value Decrease old operand = of_both (λ m n. m -ℤ n) old operand
 new_value Assign old operand = operand
 
 -- the values of all fluents after items that leave a state
-pub record AreValuesAfter (p : Problem) (s : State) (items : List Item) (values : List (Option ℤ)) : Type 0 where
+pub record AreValuesAfter (p : Problem) (s : State) (items : List Item) (values : List (Option ℤ)) :
+    Type 0 where
   pub exists : has_after p s items ≡ true
   pub fit : list_all fits values ≡ true
   pub count : length values ≡ length p.fluents

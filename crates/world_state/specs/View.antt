@@ -10,7 +10,8 @@ pub record StateView : Type 0 where
   pub words : List ℕ
   pub values : List (Option ℤ)
 
--- the state that is kept so: no fact behind the last word is true, and no fluent behind the last value is defined
+-- the state that is kept so: no fact behind the last word is true, and no fluent behind the last
+-- value is defined
 abbrev pub meaning : StateView → State
 meaning v = record {
   fact = λ f. has_bit v.words f;

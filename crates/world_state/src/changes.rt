@@ -8,18 +8,18 @@ ghost use Rattle.world_state.specs.Exact.{is_shallow_effect, IsBounded, AreBound
 ghost use Rattle.world_state.specs.Happenings.{is_item_of, same_item, changed_by, new_value, AreValuesAfter};
 ghost use Rattle.world_state.specs.View.{meaning, IsStateOf};
 
-use crate::conditions::{effects_of_action, keeps_the_rules, timed_at};
+use crate::conditions::effects_of_action;
 use crate::expressions::{difference, sum, value_in, widened};
 use crate::rows::BitRow;
 use crate::state::State;
 use std::alloc::Global;
 use tp_spec::{Effect, How, Item, NoMemory, Problem};
 
-/// The state after a set of items of one tick, none exactly where a new value leaves 64 bits. All right sides are taken
-/// in the state before.
+/// The state after a set of items of one tick, none exactly where a new value leaves 64 bits. All
+/// right sides are taken in the state before.
 ///
-/// PDDL 2.1, section 6 (happenings). Items that do not interfere commute; of others the later in the list is applied
-/// first.
+/// PDDL 2.1, section 6 (happenings). Items that do not interfere commute; of others the later in
+/// the list is applied first.
 pub fn apply(
     alloc: Global,
     problem: &Problem,
@@ -29,10 +29,11 @@ pub fn apply(
     requires of_problem { IsStateOf problem.now state.now }
     requires inside { IsTrue (list_all (is_item_of problem.now) items.now) }
     requires different { IsTrue (each_pair (λ i j. not (same_item i j)) items.now) }
-    ensures is { IfOk result (λ r. option_map meaning r ≡ after problem.now (meaning state.now) items.now) }
+    ensures is { IfOk result (λ r. option_map meaning r
+        ≡ after problem.now (meaning state.now) items.now) }
     ensures of_problem { IfOk result (λ r. IfSome r (λ s. IsStateOf problem.now s)) }
 {
-    keeps_the_rules(problem);
+    problem.keeps_the_rules();
     match values_after(alloc, problem, state, items)? {
         None => Ok(None),
         Some(values) => {
@@ -52,9 +53,11 @@ fn values_after(
     requires of_problem { IsStateOf problem.now state.now }
     requires inside { IsTrue (list_all (is_item_of problem.now) items.now) }
     requires different { IsTrue (each_pair (λ i j. not (same_item i j)) items.now) }
-    ensures { IfOk result (λ r. MatchOption r (has_after problem.now (meaning state.now) items.now ≡ false) (λ v. AreValuesAfter problem.now (meaning state.now) items.now v.items)) }
+    ensures { IfOk result (λ r. MatchOption r
+        (has_after problem.now (meaning state.now) items.now ≡ false)
+        (λ v. AreValuesAfter problem.now (meaning state.now) items.now v.items)) }
 {
-    keeps_the_rules(problem);
+    problem.keeps_the_rules();
     let wide = new_values(alloc, problem, state, items)?;
     narrowed(alloc, &wide)
 }
@@ -68,16 +71,18 @@ fn facts_after(
 ) -> Result<BitRow, NoMemory>
     requires { IsStateOf problem.now state.now }
     ensures wide { IfOk result (λ r. width r ≡ length state.now.words) }
-    ensures has { IfOk result (λ r. (f : ℕ) → is_in_row r f ≡ (next (meaning state.now) (effects_of problem.now items.now)).fact f) }
+    ensures has { IfOk result (λ r. (f : ℕ)
+        → is_in_row r f ≡ (next (meaning state.now) (effects_of problem.now items.now)).fact f) }
 {
-    keeps_the_rules(problem);
+    problem.keeps_the_rules();
     let mut facts = state.copied_facts(alloc)?;
     delete_facts(&mut facts, problem, items);
     add_facts(&mut facts, problem, items);
     Ok(facts)
 }
 
-/// The least fluent whose new value after a set of items leaves 64 bits, none exactly where there is a state after.
+/// The least fluent whose new value after a set of items leaves 64 bits, none exactly where there
+/// is a state after.
 pub fn first_overflow(
     alloc: Global,
     problem: &Problem,
@@ -87,11 +92,15 @@ pub fn first_overflow(
     requires of_problem { IsStateOf problem.now state.now }
     requires inside { IsTrue (list_all (is_item_of problem.now) items.now) }
     requires different { IsTrue (each_pair (λ i j. not (same_item i j)) items.now) }
-    ensures none { IfOk result (λ r. r ≡ None → (x : ℕ) → fits (changed (meaning state.now) x (effects_of problem.now items.now)) ≡ true) }
-    ensures some { IfOk result (λ r. IfSome r (λ y. fits (changed (meaning state.now) y (effects_of problem.now items.now)) ≡ false)) }
-    ensures first { IfOk result (λ r. IfSome r (λ y. (x : ℕ) → x < y → fits (changed (meaning state.now) x (effects_of problem.now items.now)) ≡ true)) }
+    ensures none { IfOk result (λ r. r ≡ None → (x : ℕ)
+        → fits (changed (meaning state.now) x (effects_of problem.now items.now)) ≡ true) }
+    ensures some { IfOk result (λ r. IfSome r
+        (λ y. fits (changed (meaning state.now) y (effects_of problem.now items.now)) ≡ false)) }
+    ensures first { IfOk result (λ r. IfSome r
+        (λ y. (x : ℕ) → x < y
+        → fits (changed (meaning state.now) x (effects_of problem.now items.now)) ≡ true)) }
 {
-    keeps_the_rules(problem);
+    problem.keeps_the_rules();
     let wide = new_values(alloc, problem, state, items)?;
     Ok(first_wide(&wide))
 }
@@ -121,7 +130,9 @@ fn new_values(
     requires { length items.now ≤ 8448 }
     ensures kept { IsTrue (list_all fits state.now.values) }
     ensures len { IfOk result (λ v. length v.items ≡ length state.now.values) }
-    ensures is { IfOk result (λ v. (x : ℕ) → x < length v.items → get_or v.items x None ≡ changed (meaning state.now) x (effects_of problem.now items.now)) }
+    ensures is { IfOk result (λ v. (x : ℕ) → x < length v.items
+        → get_or v.items x None
+        ≡ changed (meaning state.now) x (effects_of problem.now items.now)) }
 {
     let mut wide = widened_values(alloc, state.values())?;
     change_by_items(&mut wide, problem, state, items);
@@ -148,7 +159,10 @@ fn change_by_items(wide: &mut [Option<i128>], problem: &Problem, state: &State, 
     requires few { length items.now ≤ 8448 }
     requires bounded { AreBounded (2 ^ 63) wide.old }
     ensures len { length wide.new ≡ length wide.old }
-    ensures is { (x : ℕ) → x < length wide.old → get_or wide.new x None ≡ changed_by (meaning state.now) x (effects_of problem.now items.now) (get_or wide.old x None) }
+    ensures is { (x : ℕ) → x < length wide.old
+        → get_or wide.new x None
+        ≡ changed_by (meaning state.now) x (effects_of problem.now items.now)
+        (get_or wide.old x None) }
 {
     for index in (0..items.len()).rev() {
         change_by_effects(wide, state, effects_of_action(problem, items[index]));
@@ -161,8 +175,11 @@ fn change_by_effects(wide: &mut [Option<i128>], state: &State, effects: &[Effect
     requires few { length effects.now ≤ 4096 }
     requires bounded { AreBounded (2 ^ 125) wide.old }
     ensures len { length wide.new ≡ length wide.old }
-    ensures is { (x : ℕ) → x < length wide.old → get_or wide.new x None ≡ changed_by (meaning state.now) x effects.now (get_or wide.old x None) }
-    ensures bounded { (b : ℕ) → AreBounded b wide.old → AreBounded (b + length effects.now * 2 ^ 95) wide.new }
+    ensures is { (x : ℕ) → x < length wide.old
+        → get_or wide.new x None
+        ≡ changed_by (meaning state.now) x effects.now (get_or wide.old x None) }
+    ensures bounded { (b : ℕ) → AreBounded b wide.old
+        → AreBounded (b + length effects.now * 2 ^ 95) wide.new }
 {
     for index in (0..effects.len()).rev() {
         change_by_effect(wide, state, &effects[index]);
@@ -174,7 +191,9 @@ fn change_by_effect(wide: &mut [Option<i128>], state: &State, effect: &Effect)
     requires shallow { IsTrue (is_shallow_effect effect.now) }
     requires bounded { AreBounded (2 ^ 126) wide.old }
     ensures len { length wide.new ≡ length wide.old }
-    ensures is { (x : ℕ) → x < length wide.old → get_or wide.new x None ≡ change (meaning state.now) x effect.now (get_or wide.old x None) }
+    ensures is { (x : ℕ) → x < length wide.old
+        → get_or wide.new x None
+        ≡ change (meaning state.now) x effect.now (get_or wide.old x None) }
     ensures bounded { (b : ℕ) → AreBounded b wide.old → AreBounded (b + 2 ^ 95) wide.new }
 {
     if let Effect::Change { how, fluent, value } = effect {
@@ -201,7 +220,8 @@ fn updated(how: How, old: Option<i128>, operand: Option<i128>) -> Option<i128>
 
 /// The values in 64 bits, none where one of them leaves these.
 fn narrowed(alloc: Global, wide: &[Option<i128>]) -> Result<Option<Vec<Option<i64>>>, NoMemory>
-    ensures { IfOk result (λ r. MatchOption r (list_all fits wide.now ≡ false) (λ v. (v.items ≡ wide.now) × (list_all fits wide.now ≡ true))) }
+    ensures { IfOk result (λ r. MatchOption r (list_all fits wide.now ≡ false)
+        (λ v. (v.items ≡ wide.now) × (list_all fits wide.now ≡ true))) }
 {
     let mut values = Vec::new(alloc);
     for value in wide {
@@ -231,7 +251,8 @@ fn narrow(value: Option<i128>) -> Option<Option<i64>>
 
 /// Takes out of a row what the items delete.
 fn delete_facts(facts: &mut BitRow, problem: &Problem, items: &[Item])
-    ensures { Loses facts.old facts.new (λ f. list_any (λ i. list_any (deletes f) (effects problem.now i)) items.now) }
+    ensures { Loses facts.old facts.new
+        (λ f. list_any (λ i. list_any (deletes f) (effects problem.now i)) items.now) }
 {
     for item in items {
         delete_by_item(facts, problem, *item);
@@ -242,7 +263,7 @@ fn delete_by_item(facts: &mut BitRow, problem: &Problem, item: Item)
     ensures { Loses facts.old facts.new (λ f. list_any (deletes f) (effects problem.now item)) }
 {
     match item {
-        Item::TimedAt(number) => match timed_at(problem, number) {
+        Item::TimedAt(number) => match problem.timed_item(number) {
             Some(timed) => facts.remove_each(timed.deletes.as_slice()),
             None => {}
         },
@@ -271,7 +292,8 @@ fn delete_by_effect(facts: &mut BitRow, effect: &Effect)
 
 /// Puts into a row what the items add.
 fn add_facts(facts: &mut BitRow, problem: &Problem, items: &[Item])
-    ensures { Takes facts.old facts.new (λ f. list_any (λ i. list_any (adds f) (effects problem.now i)) items.now) }
+    ensures { Takes facts.old facts.new
+        (λ f. list_any (λ i. list_any (adds f) (effects problem.now i)) items.now) }
 {
     for item in items {
         add_by_item(facts, problem, *item);
@@ -282,7 +304,7 @@ fn add_by_item(facts: &mut BitRow, problem: &Problem, item: Item)
     ensures { Takes facts.old facts.new (λ f. list_any (adds f) (effects problem.now item)) }
 {
     match item {
-        Item::TimedAt(number) => match timed_at(problem, number) {
+        Item::TimedAt(number) => match problem.timed_item(number) {
             Some(timed) => facts.insert_each(timed.adds.as_slice()),
             None => {}
         },

@@ -3,7 +3,6 @@ ghost use Rattle.std.specs.List.{list_all};
 ghost use Rattle.std.specs.Option.{option_copied};
 ghost use Rattle.tp_spec.specs.States.{holds as holds_in, of_both, compares};
 ghost use Rattle.tp_spec.specs.Items.{own, is_defined, conditions};
-ghost use Rattle.tp_spec.specs.WellFormed.{IsWellFormed};
 ghost use Rattle.world_state.specs.Exact.{is_shallow, is_shallow_effect, IsExact};
 ghost use Rattle.tp_spec.specs.Lists.{some_and};
 ghost use Rattle.world_state.specs.Happenings.{action_effects};
@@ -11,9 +10,10 @@ ghost use Rattle.world_state.specs.View.{meaning};
 
 use crate::expressions::value_in;
 use crate::state::State;
-use tp_spec::{Action, Cond, Effect, How, Item, Op, Problem, TimedItem};
+use tp_spec::{Action, Cond, Effect, How, Item, Op, Problem};
 
-/// Whether a condition holds: a literal by membership, a comparison where both sides are defined and compare so.
+/// Whether a condition holds: a literal by membership, a comparison where both sides are defined
+/// and compare so.
 ///
 /// PDDL 2.1, section 3.
 pub fn holds(state: &State, cond: &Cond) -> bool
@@ -41,8 +41,8 @@ pub fn all_hold(state: &State, conds: &[Cond]) -> bool
     true
 }
 
-/// An item's own conditions: the written ones hold, each right side that it uses is defined, and each fluent that it
-/// increases or decreases is.
+/// An item's own conditions: the written ones hold, each right side that it uses is defined, and
+/// each fluent that it increases or decreases is.
 ///
 /// PDDL 2.1, section 6 (applicability of a snap action).
 pub fn can(problem: &Problem, state: &State, item: Item) -> bool
@@ -50,14 +50,6 @@ pub fn can(problem: &Problem, state: &State, item: Item) -> bool
 {
     all_hold(state, conditions_of(problem, item))
         && all_defined(state, effects_of_action(problem, item))
-}
-
-/// Each problem keeps the rules of the ground text. A proof learns this by itself only where a field is read, else by
-/// this call, which does nothing.
-pub fn keeps_the_rules(problem: &Problem)
-    ensures { IsWellFormed problem.now }
-{
-    let _facts = problem.facts.as_slice();
 }
 
 /// What is written before an item.
@@ -105,14 +97,8 @@ fn action_at(problem: &Problem, action: u32) -> Option<&Action>
     problem.actions.as_slice().get(action as usize)
 }
 
-/// A timed item of a problem, none where there is no such.
-pub(crate) fn timed_at(problem: &Problem, number: u32) -> Option<&TimedItem>
-    ensures { option_copied result ≡ slice_get problem.now.timed number }
-{
-    problem.timed.as_slice().get(number as usize)
-}
-
-/// Whether the right sides of all effects are defined, and each fluent that they increase or decrease.
+/// Whether the right sides of all effects are defined, and each fluent that they increase or
+/// decrease.
 fn all_defined(state: &State, effects: &[Effect]) -> bool
     requires { IsTrue (list_all is_shallow_effect effects.now) }
     ensures { result ≡ list_all (is_defined (meaning state.now)) effects.now }

@@ -5,7 +5,8 @@ ghost use Rattle.world_state.specs.Rows.{has_bit, is_in_row, has_place, width, w
 use std::alloc::Global;
 use tp_spec::NoMemory;
 
-/// A set of numbers, of facts or of fluents, as a row of bits, 64 to a word. Numbers behind its last word are not in it.
+/// A set of numbers, of facts or of fluents, as a row of bits, 64 to a word. Numbers behind its
+/// last word are not in it.
 #[derive(Debug, Drop)]
 pub struct BitRow {
     words: Vec<u64>,
@@ -23,10 +24,13 @@ impl BitRow {
         }
     }
 
-    /// The set of these numbers, without those behind the last word of a row for numbers below `count`.
+    /// The set of these numbers, without those behind the last word of a row for numbers below
+    /// `count`.
     pub fn of(alloc: Global, count: usize, members: &[u32]) -> Result<BitRow, NoMemory>
         ensures width { IfOk result (λ r. width r ≡ words_for count) }
-        ensures has { IfOk result (λ r. (f : ℕ) → is_in_row r f ≡ (has_place (words_for count) f && list_any (λ g. f == g) members.now)) }
+        ensures has { IfOk result (λ r. (f : ℕ)
+            → is_in_row r f
+            ≡ (has_place (words_for count) f && list_any (λ g. f == g) members.now)) }
     {
         let mut row = BitRow::empty(alloc, count)?;
         row.insert_each(members);
@@ -36,7 +40,8 @@ impl BitRow {
     /// Puts a number in. One behind the last word changes nothing.
     pub fn insert(&mut self, number: u32)
         ensures width { width self.new ≡ width self.old }
-        ensures has { (f : ℕ) → is_in_row self.new f ≡ (is_in_row self.old f || (has_place (width self.old) f && f == number)) }
+        ensures has { (f : ℕ) → is_in_row self.new f
+            ≡ (is_in_row self.old f || (has_place (width self.old) f && f == number)) }
     {
         let index = number as usize / 64;
         if index < self.words.len() {
@@ -106,7 +111,8 @@ impl BitRow {
     /// Takes in the numbers of another set for which it has a place.
     pub fn add_all(&mut self, other: &BitRow)
         ensures width { width self.new ≡ width self.old }
-        ensures has { (f : ℕ) → is_in_row self.new f ≡ (is_in_row self.old f || (has_place (width self.old) f && is_in_row other.now f)) }
+        ensures has { (f : ℕ) → is_in_row self.new f
+            ≡ (is_in_row self.old f || (has_place (width self.old) f && is_in_row other.now f)) }
     {
         add_words(&mut self.words, &other.words);
     }
@@ -114,7 +120,8 @@ impl BitRow {
     /// Loses all numbers of another set.
     pub fn remove_all(&mut self, other: &BitRow)
         ensures width { width self.new ≡ width self.old }
-        ensures has { (f : ℕ) → is_in_row self.new f ≡ (is_in_row self.old f && not (is_in_row other.now f)) }
+        ensures has { (f : ℕ) → is_in_row self.new f
+            ≡ (is_in_row self.old f && not (is_in_row other.now f)) }
     {
         remove_words(&mut self.words, &other.words);
     }
@@ -164,7 +171,8 @@ fn is_part(a: &[u64], b: &[u64]) -> bool
 
 fn add_words(into: &mut [u64], more: &[u64])
     ensures len { length into.new ≡ length into.old }
-    ensures has { (f : ℕ) → has_bit into.new f ≡ (has_bit into.old f || (has_place (length into.old) f && has_bit more.now f)) }
+    ensures has { (f : ℕ) → has_bit into.new f
+        ≡ (has_bit into.old f || (has_place (length into.old) f && has_bit more.now f)) }
 {
     for (k, word) in into.iter_mut().enumerate() {
         *word |= word_at(more, k);

@@ -10,8 +10,8 @@ use std::alloc::Global;
 use std::marker::Model;
 use tp_spec::{NoMemory, Problem};
 
-/// Which facts are true, a bit each, and the value of each fluent, or none where it is undefined. Contracts say what it
-/// stands for by `meaning`.
+/// Which facts are true, a bit each, and the value of each fluent, or none where it is undefined.
+/// Contracts say what it stands for by `meaning`.
 ///
 /// PDDL 2.1, section 3 (a logical state and a vector of values).
 #[derive(Debug, Drop)]

@@ -45,7 +45,7 @@ returns-in-Fault c =
     let reached = c.loop-rest.invariant.reached in
     let rest : List Standing = c.loop-rest.rest.now in
     let kept : c.take_in.new.running.items ≡ moved c.args.problem.now (first_tick rest) c.loop-rest.running.items c.loop-rest.coming.now =
-    c.in_ok-take_in.ensures ∙ ap (λ xs. xs ++ filter (is_watched c.args.problem.now) (begun_at (first_tick rest) c.loop-rest.coming.now)) c.let_go.ensures in
+    c.in_ok-take_in.ensures ∙ ap (λ xs. xs ++ filter (is_watched c.args.problem.now) (begun_at (first_tick rest) c.loop-rest.coming.now)) c.drop_ended.ensures in
     record {
       tick = first_tick rest;
       in_time = c.if-tick-end.false;
@@ -67,7 +67,7 @@ loop-rest-preserved c =
     let watched = c.loop-rest.invariant.watched in
     let rest : List Standing = c.loop-rest.rest.now in
     let kept : c.take_in.new.running.items ≡ moved c.args.problem.now (first_tick rest) c.loop-rest.running.items c.loop-rest.coming.now =
-    c.in_ok-take_in.ensures ∙ ap (λ xs. xs ++ filter (is_watched c.args.problem.now) (begun_at (first_tick rest) c.loop-rest.coming.now)) c.let_go.ensures in
+    c.in_ok-take_in.ensures ∙ ap (λ xs. xs ++ filter (is_watched c.args.problem.now) (begun_at (first_tick rest) c.loop-rest.coming.now)) c.drop_ended.ensures in
     let from = first_from rest none c.in-len1-up.len_at_least reached.left.rising in
     record {
       tables = c.loop-rest.invariant.tables;

@@ -29,6 +29,6 @@ returns-clause-overlap c = record {
 pub returns-clause-end_off : goal.returns-clause-end_off
 returns-clause-end_off c = record {
   acts = record { few = omega arith; once = refl; lengths = refl; turns = refl };
-  told = refl;
+  stated = refl;
   broken = refl;
 }

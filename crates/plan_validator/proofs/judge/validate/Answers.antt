@@ -8,7 +8,7 @@ use Rattle.plan_validator.proofs.judge.validate.Goals as goal
 pub returns-then-not-ends_well : goal.returns-then-not-ends_well
 returns-then-not-ends_well c = record {
   acts = acts_whole c.args.problem.now c.args.limits.now c.as_slice-acts.result.now c.args.plan.now.acts c.in_ok-fault.field-0 c.as_slice-acts.ensures c.in_default.is c.in_ok-fault.ensures;
-  told = refl;
+  stated = refl;
   broken = ap not (sym (ends_from c.args.problem.now c.args.limits.now c.args.plan.now c.as_slice-acts.result.now c.in_ok-standings.standings.items c.deref.result.now c.ends_well.result
       c.as_slice-acts.ensures c.deref.ensures.value c.in_ok-standings.ensures c.ends_well.ensures) ∙ c.if-not-ends_well.true);
 }

@@ -17,10 +17,25 @@ use Rattle.tp_spec.specs.Machine.{Machine, Node, first, root, step, end_of, stat
 use Rattle.tp_spec.specs.Schedules.{Live}
 use Rattle.tp_spec.specs.Words.{Sound, spell}
 use Rattle.tp_laws.specs.Early.{IsPlain, IsEarly, consecutive}
+use Rattle.tp_laws.specs.Histories.{IsTree, is_below}
 use Rattle.tp_laws.proofs.EarlyPlain.{is_instant}
 use Rattle.tp_laws.proofs.EarlyLive.{schedule-short}
 use Rattle.tp_laws.proofs.EarlyFronts.{live-front}
 use Rattle.tp_laws.proofs.EarlyCover.{cover-expand, in-without, word_of-in}
+
+-- histories in parts
+
+pub end-append : (l : Limits) (m : Machine) (es fs : List Event) → end_of l m (es ++ fs) ≡ end_of l (end_of l m es) fs
+end-append l m [] fs = refl
+end-append l m (e ∷ es) fs = end-append l (step l m e) es fs
+
+pub legal-append : (p : Problem) (l : Limits) (m : Machine) (es fs : List Event) → AreLegal p l m es → AreLegal p l (end_of l m es) fs → AreLegal p l m (es ++ fs)
+legal-append p l m [] fs h k = k
+legal-append p l m (e ∷ es) fs h k = (h.0, legal-append p l (step l m e) es fs h.1 k)
+
+pub legal-parts : (p : Problem) (l : Limits) (m : Machine) (es fs : List Event) → AreLegal p l m (es ++ fs) → AreLegal p l m es × AreLegal p l (end_of l m es) fs
+legal-parts p l m [] fs h = (tt, h)
+legal-parts p l m (e ∷ es) fs h = let r = legal-parts p l (step l m e) es fs h.1 in ((h.0, r.0), r.1)
 
 -- members
 
@@ -51,9 +66,6 @@ map-in f x (y ∷ xs) (inr h) = inr (map-in f x xs h)
 
 abbrev pub differ : Node → Node → Bool
 differ a b = not (a.id == b.id)
-
-abbrev pub is_below : ℕ → Node → Bool
-is_below made n = nat_lt n.id made
 
 unequal : (a b : ℕ) → a < b → (a == b) ≡ false
 unequal a b h = grind (arith, nat_tests)
@@ -126,14 +138,6 @@ taken-id actor id n = elim (n.id == id) as (λ b. (cond b (record n { taker = So
 
 pub taken-word : (actor id : ℕ) (n : Node) → (taken_by actor id n).word ≡ n.word
 taken-word actor id n = elim (n.id == id) as (λ b. (cond b (record n { taker = Some actor }) n).word ≡ n.word) [ true ↦ refl | false ↦ refl ]
-
--- what holds in each state
-pub record IsTree (p : Problem) (l : Limits) (m : Machine) : Type 0 where
-  pub early : IsEarly m
-  pub below : list_all (is_below m.made) m.nodes ≡ true
-  pub live : (n : Node) → IsIn n m.nodes → Live p l 0 [] n.word
-  pub covers : (plan : Plan) → Possible p l 0 [] plan → IsCovered p m plan
-  pub few : m.made ≤ max 1 l.nodes
 
 module _ (p : Problem) (l : Limits) (plain : IsPlain p) where
   -- the empty word is live

@@ -1,0 +1,21 @@
+ghost use Rattle.tp_laws.specs.Early.{OfPlain};
+ghost use Rattle.tp_laws.specs.Histories.{EndsInParts, LegalInParts, RunsLeadToTrees, OpenNodesStand, TakesKeepIds};
+
+/// A history in two parts leads where its second part leads from the state behind the first, and
+/// its events are legal exactly where those of both parts are.
+pub fn histories_in_parts()
+    ensures ends { EndsInParts }
+    ensures legal { LegalInParts }
+{}
+
+/// In each state of a run of a plain problem the clock stands, nothing is dispatched, ids tell
+/// nodes apart, words are live, possible plans are covered, and ids are in bounds.
+pub fn states_of_runs()
+    ensures { OfPlain RunsLeadToTrees }
+{}
+
+/// An open node stands, and keeps its id when it is taken.
+pub fn takes_of_nodes()
+    ensures open_stand { OpenNodesStand }
+    ensures ids { TakesKeepIds }
+{}
