@@ -45,7 +45,7 @@ impl<'p, C: Clock> Model for Tree<'p, C> {
     ghost use Rattle.open_tree.specs.Views.{TreeView};
     ghost use Rattle.open_tree.specs.Keeps.{Keeps};
     ghost use Rattle.open_tree.specs.Stands.{Stands};
-    ghost use Rattle.std.specs.Prelude.{vec_len, vec_capacity};
+    ghost use Rattle.std.specs.Prelude.{◌≡◌, vec_len, vec_capacity};
     ghost use Rattle.tp_spec.specs.contracts.expr.Expr as expr;
     ghost use Rattle.std.specs.Coded.{codes};
 
@@ -76,7 +76,8 @@ impl<'p, C: Clock> Model for Tree<'p, C> {
       over = t.over;
       spare = t.spare;
     })
-        × Stands t.problem.now t.limits t.actions t.frontier t.history.items };
+        × Stands t.problem.now t.limits t.actions t.frontier t.history.items
+        × (C.begun t.clock ≡ C.begun t.opened.value) };
 }
 
 /// What a merge is going to do, with all the memory that it takes.
@@ -282,6 +283,7 @@ impl<'p, C: Clock> Tree<'p, C> {
         ensures whole { IsWholeRun self.entry.problem self.entry.limits result.0.items }
         ensures clock { result.1 ≡ self.entry.clock }
         ensures rate { C.rate result.1 ≡ self.entry.problem.scale }
+        ensures begun { C.begun result.1 ≡ C.begun self.entry.opened }
         ensures given { C.given result.1 ≡ C.given self.entry.opened }
         ensures clocked { IsTold (C.count self.entry.opened) (C.count self.entry.clock)
             (C.last self.entry.opened) (C.last self.entry.clock) (C.given self.entry.opened)
