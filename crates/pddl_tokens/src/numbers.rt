@@ -143,8 +143,8 @@ fn with_digits(number: u64, digits: &[u8]) -> Option<u64>
 #[tactic(auto, using(crate::proofs::Values::number_after_append, crate::proofs::Values::stays_far))]
 fn joined(first: &[u8], second: &[u8], zeros: u32) -> Option<u64>
     requires { zeros ≤ 3 }
-    ensures { result ≡ in_u64 (number_from_digits_after 10 0 (map digit first.now ++ map digit second.now)
-        * 10 ^ zeros) }
+    ensures { result ≡ in_u64
+        (number_from_digits_after 10 0 (map digit first.now ++ map digit second.now) * 10 ^ zeros) }
 {
     let number = with_digits(0, first)?;
     let number = with_digits(number, second)?;

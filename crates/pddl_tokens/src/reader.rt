@@ -30,7 +30,8 @@ fn step(
         → fault_from bad (stack_of tree.new.frames.items) (tokens_from (at + 1) word.new.items rest)
         ≡ fault_from bad (stack_of tree.old.frames.items)
         (tokens_from at word.old.items (c ∷ rest))) }
-    ensures fault { IfErr result (λ f. IsFaultAt f (stack_of tree.old.frames.items) at word.old.items c) }
+    ensures fault { IfErr result
+        (λ f. IsFaultAt f (stack_of tree.old.frames.items) at word.old.items c) }
     ensures short { OnOk result (vec_len word.new ≤ at + 1) }
 {
     if is_letter(c) {
@@ -47,7 +48,8 @@ fn step(
 /// text.
 fn read_plain(alloc: Global, plain: &[u8], bad: Option<u32>) -> Result<List<Form>, TextFault>
     requires { length plain.now < 2 ^ 31 }
-    ensures found { IfOk result (λ forms. all_spelled (trees_of forms) ≡ tokens_from 0 [] plain.now) }
+    ensures found { IfOk result (λ forms. all_spelled (trees_of forms)
+        ≡ tokens_from 0 [] plain.now) }
     ensures fault { Gives result (fault_from bad [] (tokens_from 0 [] plain.now)) }
 {
     let mut tree = Builder::new(alloc);
