@@ -4,7 +4,7 @@ use Rattle.std.specs.Str.{bytes_eq}
 use Rattle.pddl_tokens.specs.Trees.{Trees, Leaf, Node, End, More}
 use Rattle.tp_spec.specs.declared.problem.How.{How}
 use Rattle.tp_spec.specs.declared.problem.How.TheVariants.{Increase, Decrease, Assign}
-use Rattle.pddl_parts.specs.Effects.{is_update}
+use Rattle.pddl_parts.specs.Words.{is_update}
 use Rattle.pddl_meaning.specs.declared.terms.Atom.{Atom}
 use Rattle.pddl_meaning.specs.declared.terms.Symbols.{Symbols}
 use Rattle.pddl_meaning.specs.declared.changes.Change.{Change}
@@ -22,7 +22,8 @@ how_of text =
 abbrev pub function_of : Symbols → List (List ℕ) → Trees → Atom
 function_of symbols variables End = record { head = 0; terms = [] }
 function_of symbols variables (More (Node first end parts) rest) = record { head = 0; terms = [] }
-function_of symbols variables (More (Leaf head text) rest) = atom_of symbols variables symbols.functions text rest
+function_of symbols variables (More (Leaf head text) rest) =
+    atom_of symbols variables symbols.functions text rest
 
 -- the first member as a function with its arguments
 abbrev pub target_of : Symbols → List (List ℕ) → Trees → Atom
@@ -33,14 +34,17 @@ target_of symbols variables (More (Node at end parts) rest) = function_of symbol
 -- a list that is no conjunction and no negation
 abbrev pub change_of : Symbols → List (List ℕ) → ℕ → List ℕ → Trees → Change
 change_of symbols variables scale text rest =
-    if is_update text then Update (how_of text) (target_of symbols variables rest) (operand_of symbols variables scale (behind_first rest))
+    if is_update text
+    then Update (how_of text) (target_of symbols variables rest)
+    (operand_of symbols variables scale (behind_first rest))
     else Lit true (atom_of symbols variables symbols.predicates text rest)
 
 -- a list behind `not`
 abbrev pub deletion_of : Symbols → List (List ℕ) → Trees → List Change
 deletion_of symbols variables End = []
 deletion_of symbols variables (More (Node first end parts) rest) = []
-deletion_of symbols variables (More (Leaf head text) rest) = Lit false (atom_of symbols variables symbols.predicates text rest) ∷ []
+deletion_of symbols variables (More (Leaf head text) rest) =
+    Lit false (atom_of symbols variables symbols.predicates text rest) ∷ []
 
 -- behind `not`
 abbrev pub deleted_of : Symbols → List (List ℕ) → Trees → List Change
@@ -60,5 +64,7 @@ abbrev mutual
 
   pub effects_of : Symbols → List (List ℕ) → ℕ → Trees → List Change
   effects_of symbols variables scale End = []
-  effects_of symbols variables scale (More (Leaf at text) rest) = effects_of symbols variables scale rest
-  effects_of symbols variables scale (More (Node at end parts) rest) = effect_of symbols variables scale parts ++ effects_of symbols variables scale rest
+  effects_of symbols variables scale (More (Leaf at text) rest) =
+      effects_of symbols variables scale rest
+  effects_of symbols variables scale (More (Node at end parts) rest) =
+      effect_of symbols variables scale parts ++ effects_of symbols variables scale rest

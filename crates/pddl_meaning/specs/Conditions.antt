@@ -4,7 +4,8 @@ use Rattle.std.specs.Str.{bytes_eq}
 use Rattle.pddl_tokens.specs.Trees.{Trees, Leaf, Node, End, More}
 use Rattle.tp_spec.specs.declared.problem.Op.{Op}
 use Rattle.tp_spec.specs.declared.problem.Op.TheVariants.{Less, LessEq, Equal, MoreEq, More as Greater}
-use Rattle.pddl_parts.specs.Conditions.{is_order, may_be_term}
+use Rattle.pddl_parts.specs.Words.{is_order}
+use Rattle.pddl_parts.specs.Literals.{may_be_term}
 use Rattle.pddl_meaning.specs.declared.terms.Symbols.{Symbols}
 use Rattle.pddl_meaning.specs.declared.conditions.Condition.{Condition}
 use Rattle.pddl_meaning.specs.declared.conditions.Condition.TheVariants.{Lit, Same, Compare}
@@ -21,16 +22,21 @@ op_of text =
 
 -- an object equality, or its negation
 abbrev pub same_of : Symbols → List (List ℕ) → Bool → Trees → Condition
-same_of symbols variables positive members = Same positive (first_term symbols variables members) (first_term symbols variables (behind_first members))
+same_of symbols variables positive members =
+    Same positive (first_term symbols variables members)
+    (first_term symbols variables (behind_first members))
 
 abbrev pub compared_of : Symbols → List (List ℕ) → ℕ → Op → Trees → Condition
 compared_of symbols variables scale op members =
-    Compare op (operand_of symbols variables scale members) (operand_of symbols variables scale (behind_first members))
+    Compare op (operand_of symbols variables scale members)
+    (operand_of symbols variables scale (behind_first members))
 
 -- a list that is no conjunction and no negation
 abbrev pub plain_of : Symbols → List (List ℕ) → ℕ → List ℕ → Trees → Condition
 plain_of symbols variables scale text rest =
-    if bytes_eq text (codes "=") then (if may_be_term rest then same_of symbols variables true rest else compared_of symbols variables scale Equal rest)
+    if bytes_eq text (codes "=")
+    then (if may_be_term rest then same_of symbols variables true rest
+    else compared_of symbols variables scale Equal rest)
     else if is_order text then compared_of symbols variables scale (op_of text) rest
     else Lit true (atom_of symbols variables symbols.predicates text rest)
 
@@ -39,7 +45,8 @@ abbrev pub negation_of : Symbols → List (List ℕ) → Trees → List Conditio
 negation_of symbols variables End = []
 negation_of symbols variables (More (Node first end parts) rest) = []
 negation_of symbols variables (More (Leaf head text) rest) =
-    (if bytes_eq text (codes "=") then same_of symbols variables false rest else Lit false (atom_of symbols variables symbols.predicates text rest)) ∷ []
+    (if bytes_eq text (codes "=") then same_of symbols variables false rest
+    else Lit false (atom_of symbols variables symbols.predicates text rest)) ∷ []
 
 -- behind `not`
 abbrev pub negated_of : Symbols → List (List ℕ) → Trees → List Condition
@@ -59,5 +66,7 @@ abbrev mutual
 
   pub conditions_of : Symbols → List (List ℕ) → ℕ → Trees → List Condition
   conditions_of symbols variables scale End = []
-  conditions_of symbols variables scale (More (Leaf at text) rest) = conditions_of symbols variables scale rest
-  conditions_of symbols variables scale (More (Node at end parts) rest) = condition_of symbols variables scale parts ++ conditions_of symbols variables scale rest
+  conditions_of symbols variables scale (More (Leaf at text) rest) =
+      conditions_of symbols variables scale rest
+  conditions_of symbols variables scale (More (Node at end parts) rest) =
+      condition_of symbols variables scale parts ++ conditions_of symbols variables scale rest

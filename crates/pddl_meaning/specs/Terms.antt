@@ -18,16 +18,20 @@ place_of names text = or_zero (position (bytes_eq text) names)
 
 -- a variable is a parameter, by its number, and a name an object
 abbrev pub term_of : Symbols → List (List ℕ) → List ℕ → Term
-term_of symbols variables text = if is_variable text then Parameter (place_of variables text) else Object (place_of symbols.objects text)
+term_of symbols variables text =
+    if is_variable text then Parameter (place_of variables text)
+    else Object (place_of symbols.objects text)
 
 abbrev pub terms_of : Symbols → List (List ℕ) → Trees → List Term
 terms_of symbols variables End = []
-terms_of symbols variables (More (Leaf at text) rest) = term_of symbols variables text ∷ terms_of symbols variables rest
+terms_of symbols variables (More (Leaf at text) rest) =
+    term_of symbols variables text ∷ terms_of symbols variables rest
 terms_of symbols variables (More (Node at close parts) rest) = terms_of symbols variables rest
 
 -- a predicate or a function of this table, with its arguments
 abbrev pub atom_of : Symbols → List (List ℕ) → List (List ℕ) → List ℕ → Trees → Atom
-atom_of symbols variables table text arguments = record { head = place_of table text; terms = terms_of symbols variables arguments }
+atom_of symbols variables table text arguments =
+    record { head = place_of table text; terms = terms_of symbols variables arguments }
 
 -- the first member as a term
 abbrev pub first_term : Symbols → List (List ℕ) → Trees → Term

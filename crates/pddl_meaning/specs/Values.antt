@@ -33,29 +33,38 @@ abbrev mutual
 
   pub sum_value : Symbols → List (List ℕ) → ℕ → Trees → Value
   sum_value symbols variables scale End = zero_value
-  sum_value symbols variables scale (More (Leaf at text) rest) = grouped_value symbols variables scale (numeral_value scale text) rest
-  sum_value symbols variables scale (More (Node at end parts) rest) = grouped_value symbols variables scale (operation_value symbols variables scale parts) rest
+  sum_value symbols variables scale (More (Leaf at text) rest) =
+      grouped_value symbols variables scale (numeral_value scale text) rest
+  sum_value symbols variables scale (More (Node at end parts) rest) =
+      grouped_value symbols variables scale (operation_value symbols variables scale parts) rest
 
   -- a sum so far, and more summands
   pub grouped_value : Symbols → List (List ℕ) → ℕ → Value → Trees → Value
   grouped_value symbols variables scale sum End = sum
-  grouped_value symbols variables scale sum (More (Leaf at text) rest) = grouped_value symbols variables scale (Sum sum (numeral_value scale text)) rest
+  grouped_value symbols variables scale sum (More (Leaf at text) rest) =
+      grouped_value symbols variables scale (Sum sum (numeral_value scale text)) rest
   grouped_value symbols variables scale sum (More (Node at end parts) rest) =
-      grouped_value symbols variables scale (Sum sum (operation_value symbols variables scale parts)) rest
+      grouped_value symbols variables scale
+      (Sum sum (operation_value symbols variables scale parts)) rest
 
   pub difference_value : Symbols → List (List ℕ) → ℕ → Trees → Value
   difference_value symbols variables scale End = zero_value
-  difference_value symbols variables scale (More (Leaf at text) rest) = less_value symbols variables scale (numeral_value scale text) rest
-  difference_value symbols variables scale (More (Node at end parts) rest) = less_value symbols variables scale (operation_value symbols variables scale parts) rest
+  difference_value symbols variables scale (More (Leaf at text) rest) =
+      less_value symbols variables scale (numeral_value scale text) rest
+  difference_value symbols variables scale (More (Node at end parts) rest) =
+      less_value symbols variables scale (operation_value symbols variables scale parts) rest
 
   -- a first operand less the second one, where there is one
   pub less_value : Symbols → List (List ℕ) → ℕ → Value → Trees → Value
   less_value symbols variables scale first End = Difference zero_value first
-  less_value symbols variables scale first (More (Leaf at text) rest) = Difference first (numeral_value scale text)
-  less_value symbols variables scale first (More (Node at end parts) rest) = Difference first (operation_value symbols variables scale parts)
+  less_value symbols variables scale first (More (Leaf at text) rest) =
+      Difference first (numeral_value scale text)
+  less_value symbols variables scale first (More (Node at end parts) rest) =
+      Difference first (operation_value symbols variables scale parts)
 
 -- the first member as an expression
 abbrev pub operand_of : Symbols → List (List ℕ) → ℕ → Trees → Value
 operand_of symbols variables scale End = zero_value
 operand_of symbols variables scale (More (Leaf at text) rest) = numeral_value scale text
-operand_of symbols variables scale (More (Node at end parts) rest) = operation_value symbols variables scale parts
+operand_of symbols variables scale (More (Node at end parts) rest) =
+    operation_value symbols variables scale parts

@@ -12,7 +12,8 @@ use pddl_tokens::{Form, Head, head_of};
 use std::alloc::Global;
 use tp_spec::{How, List, NoMemory};
 
-/// What an effect does to a state: it makes an atom true or false, or updates the value of a function.
+/// What an effect does to a state: it makes an atom true or false, or updates the value of a
+/// function.
 #[derive(Drop)]
 pub enum Change {
     Lit {
@@ -54,7 +55,8 @@ pub fn function_of(
     variables: &Names,
     parts: &[Form],
 ) -> Result<Atom, NoMemory>
-    ensures { IfOk result (λ atom. atom ≡ function_of symbols.now variables.now (trees_of parts.now)) }
+    ensures { IfOk result (λ atom. atom
+        ≡ function_of symbols.now variables.now (trees_of parts.now)) }
 {
     match head_of(parts) {
         Head::Missing | Head::List { .. } => Ok(no_atom(alloc)),
@@ -78,7 +80,8 @@ pub fn target_of(
     variables: &Names,
     members: &[Form],
 ) -> Result<Atom, NoMemory>
-    ensures { IfOk result (λ atom. atom ≡ target_of symbols.now variables.now (trees_of members.now)) }
+    ensures { IfOk result (λ atom. atom
+        ≡ target_of symbols.now variables.now (trees_of members.now)) }
 {
     match head_of(members) {
         Head::Missing | Head::Word(..) => Ok(no_atom(alloc)),
@@ -94,7 +97,9 @@ fn literal_of(
     text: &[u8],
     rest: &[Form],
 ) -> Result<Change, NoMemory>
-    ensures { IfOk result (λ c. c ≡ Lit positive (atom_of symbols.now variables.now symbols.now.predicates text.now (trees_of rest.now))) }
+    ensures { IfOk result (λ c. c
+        ≡ Lit positive (atom_of symbols.now variables.now symbols.now.predicates text.now
+        (trees_of rest.now))) }
 {
     let atom = atom_of(alloc, symbols, variables, &symbols.predicates, text, rest)?;
     Ok(Change::Lit { positive, atom })
@@ -110,7 +115,8 @@ fn change_of(
     rest: &[Form],
 ) -> Result<Change, NoMemory>
     requires { IsScale scale }
-    ensures { IfOk result (λ c. c ≡ change_of symbols.now variables.now scale text.now (trees_of rest.now)) }
+    ensures { IfOk result (λ c. c
+        ≡ change_of symbols.now variables.now scale text.now (trees_of rest.now)) }
 {
     if !is_update(text) {
         return literal_of(alloc, symbols, variables, true, text, rest);
@@ -131,7 +137,8 @@ fn with_deletion(
     variables: &Names,
     parts: &[Form],
 ) -> Result<List<Change>, NoMemory>
-    ensures { IfOk result (λ more. more ≡ changes ++ deletion_of symbols.now variables.now (trees_of parts.now)) }
+    ensures { IfOk result (λ more. more ≡ changes
+        ++ deletion_of symbols.now variables.now (trees_of parts.now)) }
 {
     match head_of(parts) {
         Head::Missing | Head::List { .. } => Ok(changes),
@@ -150,7 +157,8 @@ fn with_deleted(
     variables: &Names,
     members: &[Form],
 ) -> Result<List<Change>, NoMemory>
-    ensures { IfOk result (λ more. more ≡ changes ++ deleted_of symbols.now variables.now (trees_of members.now)) }
+    ensures { IfOk result (λ more. more ≡ changes
+        ++ deleted_of symbols.now variables.now (trees_of members.now)) }
 {
     match head_of(members) {
         Head::Missing | Head::Word(..) => Ok(changes),
@@ -170,7 +178,8 @@ pub fn with_effect(
     parts: &[Form],
 ) -> Result<List<Change>, NoMemory>
     requires { IsScale scale }
-    ensures { IfOk result (λ more. more ≡ changes ++ effect_of symbols.now variables.now scale (trees_of parts.now)) }
+    ensures { IfOk result (λ more. more ≡ changes
+        ++ effect_of symbols.now variables.now scale (trees_of parts.now)) }
 {
     match head_of(parts) {
         Head::Missing | Head::List { .. } => Ok(changes),
@@ -200,7 +209,8 @@ fn with_effects(
     forms: &[Form],
 ) -> Result<List<Change>, NoMemory>
     requires { IsScale scale }
-    ensures { IfOk result (λ more. more ≡ changes ++ effects_of symbols.now variables.now scale (trees_of forms.now)) }
+    ensures { IfOk result (λ more. more ≡ changes
+        ++ effects_of symbols.now variables.now scale (trees_of forms.now)) }
 {
     let mut rest = forms;
     'effects: loop {

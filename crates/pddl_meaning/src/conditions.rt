@@ -53,7 +53,8 @@ fn same_of(
     positive: bool,
     members: &[Form],
 ) -> Result<Condition, NoMemory>
-    ensures { IfOk result (λ c. c ≡ same_of symbols.now variables.now positive (trees_of members.now)) }
+    ensures { IfOk result (λ c. c
+        ≡ same_of symbols.now variables.now positive (trees_of members.now)) }
 {
     let left = first_term(symbols, variables, members)?;
     let right = first_term(symbols, variables, behind_first(members))?;
@@ -73,7 +74,8 @@ fn compared_of(
     members: &[Form],
 ) -> Result<Condition, NoMemory>
     requires { IsScale scale }
-    ensures { IfOk result (λ c. c ≡ compared_of symbols.now variables.now scale op (trees_of members.now)) }
+    ensures { IfOk result (λ c. c
+        ≡ compared_of symbols.now variables.now scale op (trees_of members.now)) }
 {
     let left = operand_of(alloc, symbols, variables, scale, members)?;
     let right = operand_of(alloc, symbols, variables, scale, behind_first(members))?;
@@ -88,7 +90,9 @@ fn literal_of(
     text: &[u8],
     rest: &[Form],
 ) -> Result<Condition, NoMemory>
-    ensures { IfOk result (λ c. c ≡ Lit positive (atom_of symbols.now variables.now symbols.now.predicates text.now (trees_of rest.now))) }
+    ensures { IfOk result (λ c. c
+        ≡ Lit positive (atom_of symbols.now variables.now symbols.now.predicates text.now
+        (trees_of rest.now))) }
 {
     let atom = atom_of(alloc, symbols, variables, &symbols.predicates, text, rest)?;
     Ok(Condition::Lit { positive, atom })
@@ -104,7 +108,8 @@ fn plain_of(
     rest: &[Form],
 ) -> Result<Condition, NoMemory>
     requires { IsScale scale }
-    ensures { IfOk result (λ c. c ≡ plain_of symbols.now variables.now scale text.now (trees_of rest.now)) }
+    ensures { IfOk result (λ c. c
+        ≡ plain_of symbols.now variables.now scale text.now (trees_of rest.now)) }
 {
     if text == b"=".as_slice() {
         if may_be_term(rest) {
@@ -126,7 +131,8 @@ fn with_negation(
     variables: &Names,
     parts: &[Form],
 ) -> Result<List<Condition>, NoMemory>
-    ensures { IfOk result (λ more. more ≡ conditions ++ negation_of symbols.now variables.now (trees_of parts.now)) }
+    ensures { IfOk result (λ more. more ≡ conditions
+        ++ negation_of symbols.now variables.now (trees_of parts.now)) }
 {
     match head_of(parts) {
         Head::Missing | Head::List { .. } => Ok(conditions),
@@ -150,7 +156,8 @@ fn with_negated(
     variables: &Names,
     members: &[Form],
 ) -> Result<List<Condition>, NoMemory>
-    ensures { IfOk result (λ more. more ≡ conditions ++ negated_of symbols.now variables.now (trees_of members.now)) }
+    ensures { IfOk result (λ more. more ≡ conditions
+        ++ negated_of symbols.now variables.now (trees_of members.now)) }
 {
     match head_of(members) {
         Head::Missing | Head::Word(..) => Ok(conditions),
@@ -170,7 +177,8 @@ pub fn with_condition(
     parts: &[Form],
 ) -> Result<List<Condition>, NoMemory>
     requires { IsScale scale }
-    ensures { IfOk result (λ more. more ≡ conditions ++ condition_of symbols.now variables.now scale (trees_of parts.now)) }
+    ensures { IfOk result (λ more. more ≡ conditions
+        ++ condition_of symbols.now variables.now scale (trees_of parts.now)) }
 {
     match head_of(parts) {
         Head::Missing | Head::List { .. } => Ok(conditions),
@@ -200,7 +208,8 @@ fn with_conditions(
     forms: &[Form],
 ) -> Result<List<Condition>, NoMemory>
     requires { IsScale scale }
-    ensures { IfOk result (λ more. more ≡ conditions ++ conditions_of symbols.now variables.now scale (trees_of forms.now)) }
+    ensures { IfOk result (λ more. more ≡ conditions
+        ++ conditions_of symbols.now variables.now scale (trees_of forms.now)) }
 {
     let mut rest = forms;
     'conditions: loop {

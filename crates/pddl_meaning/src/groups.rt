@@ -103,7 +103,8 @@ pub fn sorts_of(
     types: &Names,
     forms: &[Form],
 ) -> Result<List<u32>, NoMemory>
-    ensures { IfOk result (λ sorts. sorts ≡ sorts_from rule types.now Part.Start (trees_of forms.now)) }
+    ensures { IfOk result (λ sorts. sorts
+        ≡ sorts_from rule types.now Part.Start (trees_of forms.now)) }
 {
     let mut sorts = List::new(alloc);
     let mut known = None;
@@ -140,7 +141,8 @@ pub fn objects_of(
     types: &Names,
     forms: &[Form],
 ) -> Result<List<Object>, NoMemory>
-    ensures { IfOk result (λ objects. objects ≡ objects_from rule types.now Part.Start (trees_of forms.now)) }
+    ensures { IfOk result (λ objects. objects
+        ≡ objects_from rule types.now Part.Start (trees_of forms.now)) }
 {
     let mut objects = List::new(alloc);
     let mut known = None;

@@ -1,7 +1,8 @@
-//! What the parts of PDDL texts say: atoms, expressions, conditions, effects and typed lists, as values.
+//! What the parts of PDDL texts say: atoms, expressions, conditions, effects and typed lists, as
+//! values.
 //!
-//! The definitions in `specs/` are total, and say something that counts only of texts without a fault, which
-//! `pddl_parts` judges. Lists are in the order of the text.
+//! The definitions in `specs/` are total, and say something that counts only of texts without a
+//! fault, which `pddl_parts` judges. Lists are in the order of the text.
 #![tactic(auto)]
 
 mod changes;

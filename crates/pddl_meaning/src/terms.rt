@@ -59,7 +59,8 @@ pub fn terms_of(
     variables: &Names,
     forms: &[Form],
 ) -> Result<List<Term>, NoMemory>
-    ensures { IfOk result (λ terms. terms ≡ terms_of symbols.now variables.now (trees_of forms.now)) }
+    ensures { IfOk result (λ terms. terms
+        ≡ terms_of symbols.now variables.now (trees_of forms.now)) }
 {
     let mut terms = List::new(alloc);
     let mut rest = forms;
@@ -84,7 +85,8 @@ pub fn atom_of(
     text: &[u8],
     arguments: &[Form],
 ) -> Result<Atom, NoMemory>
-    ensures { IfOk result (λ atom. atom ≡ atom_of symbols.now variables.now table.now text.now (trees_of arguments.now)) }
+    ensures { IfOk result (λ atom. atom
+        ≡ atom_of symbols.now variables.now table.now text.now (trees_of arguments.now)) }
 {
     let head = place_of(table, text)?;
     let terms = terms_of(alloc, symbols, variables, arguments)?;
@@ -93,7 +95,8 @@ pub fn atom_of(
 
 /// The first member as a term.
 pub fn first_term(symbols: &Symbols, variables: &Names, forms: &[Form]) -> Result<Term, NoMemory>
-    ensures { IfOk result (λ term. term ≡ first_term symbols.now variables.now (trees_of forms.now)) }
+    ensures { IfOk result (λ term. term
+        ≡ first_term symbols.now variables.now (trees_of forms.now)) }
 {
     match head_of(forms) {
         Head::Missing | Head::List { .. } => Ok(Term::Object(0)),

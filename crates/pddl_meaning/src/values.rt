@@ -11,7 +11,8 @@ use sqlite_items::Boxed;
 use std::alloc::Global;
 use tp_spec::NoMemory;
 
-/// A numeric expression: a number in units of the scale, the value of a function, a sum or a difference.
+/// A numeric expression: a number in units of the scale, the value of a function, a sum or a
+/// difference.
 #[derive(Drop)]
 pub enum Value {
     Number(i64),
@@ -66,7 +67,8 @@ pub fn operation_value(
     parts: &[Form],
 ) -> Result<Value, NoMemory>
     requires { IsScale scale }
-    ensures { IfOk result (λ v. v ≡ operation_value symbols.now variables.now scale (trees_of parts.now)) }
+    ensures { IfOk result (λ v. v
+        ≡ operation_value symbols.now variables.now scale (trees_of parts.now)) }
 {
     match head_of(parts) {
         Head::Missing | Head::List { .. } => Ok(Value::Number(0)),
@@ -93,7 +95,8 @@ fn sum_value(
     summands: &[Form],
 ) -> Result<Value, NoMemory>
     requires { IsScale scale }
-    ensures { IfOk result (λ v. v ≡ sum_value symbols.now variables.now scale (trees_of summands.now)) }
+    ensures { IfOk result (λ v. v
+        ≡ sum_value symbols.now variables.now scale (trees_of summands.now)) }
 {
     match head_of(summands) {
         Head::Missing => Ok(Value::Number(0)),
@@ -125,7 +128,8 @@ fn grouped_value(
     summands: &[Form],
 ) -> Result<Value, NoMemory>
     requires { IsScale scale }
-    ensures { IfOk result (λ v. v ≡ grouped_value symbols.now variables.now scale first (trees_of summands.now)) }
+    ensures { IfOk result (λ v. v
+        ≡ grouped_value symbols.now variables.now scale first (trees_of summands.now)) }
 {
     let mut total = first;
     let mut rest = summands;
@@ -158,7 +162,8 @@ fn difference_value(
     operands: &[Form],
 ) -> Result<Value, NoMemory>
     requires { IsScale scale }
-    ensures { IfOk result (λ v. v ≡ difference_value symbols.now variables.now scale (trees_of operands.now)) }
+    ensures { IfOk result (λ v. v
+        ≡ difference_value symbols.now variables.now scale (trees_of operands.now)) }
 {
     match head_of(operands) {
         Head::Missing => Ok(Value::Number(0)),
@@ -190,7 +195,8 @@ fn less_value(
     operands: &[Form],
 ) -> Result<Value, NoMemory>
     requires { IsScale scale }
-    ensures { IfOk result (λ v. v ≡ less_value symbols.now variables.now scale first (trees_of operands.now)) }
+    ensures { IfOk result (λ v. v
+        ≡ less_value symbols.now variables.now scale first (trees_of operands.now)) }
 {
     match head_of(operands) {
         Head::Missing => difference(alloc, Value::Number(0), first),
@@ -211,7 +217,8 @@ pub fn operand_of(
     forms: &[Form],
 ) -> Result<Value, NoMemory>
     requires { IsScale scale }
-    ensures { IfOk result (λ v. v ≡ operand_of symbols.now variables.now scale (trees_of forms.now)) }
+    ensures { IfOk result (λ v. v
+        ≡ operand_of symbols.now variables.now scale (trees_of forms.now)) }
 {
     match head_of(forms) {
         Head::Missing => Ok(Value::Number(0)),

@@ -1,6 +1,8 @@
 pub mod First
 pub mod Reported
 pub mod Words
+pub mod Literals
+pub mod Settings
 pub mod Names
 pub mod Typed
 pub mod Items

@@ -9,4 +9,5 @@ value_of table name = lookup (bytes_eq name) table
 
 -- the names after one more: it goes last where it is new, else the earlier number stays
 abbrev pub with_value : List (List ℕ × ℕ) → List ℕ → ℕ → List (List ℕ × ℕ)
-with_value table name value = if is_some (value_of table name) then table else table ++ (name, value) ∷ []
+with_value table name value =
+    if is_some (value_of table name) then table else table ++ (name, value) ∷ []

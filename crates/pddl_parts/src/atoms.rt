@@ -1,14 +1,15 @@
 ghost use Rattle.std.specs.Prelude.{◌≡◌};
 ghost use Rattle.pddl_tokens.specs.Trees.{trees_of};
 ghost use Rattle.pddl_parts.specs.First.{first};
-ghost use Rattle.pddl_parts.specs.Atoms.{known_faults, term_faults, terms_faults, count_of, arity_faults, atom_faults};
+ghost use Rattle.pddl_parts.specs.Settings.{setting_of};
+ghost use Rattle.pddl_parts.specs.Atoms.{known_faults, term_faults, terms_faults, count_of, arity_faults, atom_faults, predicate_faults};
 
 use crate::faults::{Fault, Kind};
 use crate::first::{earlier, fault};
-use crate::names::Names;
-use crate::scope::Scope;
+use crate::literals::{is_left_out_at, name_fault, unfit_list};
+use crate::scope::Context;
 use crate::table::Table;
-use crate::words::{is_left_out_in, is_name, is_variable, name_fault, unfit_list};
+use crate::words::{is_name, is_variable};
 use pddl_tokens::{Form, Head, Word, head_of};
 
 /// What is wrong with a name where only a known one may stand.
@@ -22,17 +23,17 @@ pub fn known_fault(known: bool, at: u32) -> Option<Fault>
     }
 }
 
-/// What is wrong with a word where a variable or an object is to stand, in a duration or elsewhere.
-pub fn term_fault(duration: bool, scope: &Scope, variables: &Names, word: &Word) -> Option<Fault>
-    ensures { result ≡ first (term_faults duration scope.now variables.now word.now.at word.now.text) }
+/// What is wrong with a word where a variable or an object is to stand.
+pub fn term_fault(context: &Context<'_>, word: &Word) -> Option<Fault>
+    ensures { result ≡ first (term_faults (setting_of context.now) word.now.at word.now.text) }
 {
     let text = word.text.as_slice();
-    if is_left_out_in(duration, text) {
+    if is_left_out_at(context.place, text) {
         fault(Kind::LeftOut, word.at)
     } else if is_variable(word) {
-        known_fault(variables.has(text), word.at)
+        known_fault(context.variables.has(text), word.at)
     } else if is_name(word) {
-        known_fault(scope.objects.has(text), word.at)
+        known_fault(context.scope.objects.has(text), word.at)
     } else {
         fault(Kind::Shape, word.at)
     }
@@ -40,8 +41,8 @@ pub fn term_fault(duration: bool, scope: &Scope, variables: &Names, word: &Word)
 
 /// The first fault of some terms.
 #[tactic(auto, using(crate::proofs::Firsts::first_onto))]
-fn terms_fault(duration: bool, scope: &Scope, variables: &Names, forms: &[Form]) -> Option<Fault>
-    ensures { result ≡ first (terms_faults duration scope.now variables.now (trees_of forms.now)) }
+fn terms_fault(context: &Context<'_>, forms: &[Form]) -> Option<Fault>
+    ensures { result ≡ first (terms_faults (setting_of context.now) (trees_of forms.now)) }
 {
     let mut best = None;
     let mut rest = forms;
@@ -49,7 +50,7 @@ fn terms_fault(duration: bool, scope: &Scope, variables: &Names, forms: &[Form])
         match head_of(rest) {
             Head::Missing => return best,
             Head::Word(word, more) => {
-                best = earlier(best, term_fault(duration, scope, variables, word));
+                best = earlier(best, term_fault(context, word));
                 rest = more;
             }
             Head::List {
@@ -58,7 +59,7 @@ fn terms_fault(duration: bool, scope: &Scope, variables: &Names, forms: &[Form])
                 rest: more,
                 ..
             } => {
-                best = earlier(best, unfit_list(duration, at, parts));
+                best = earlier(best, unfit_list(context.place, at, parts));
                 rest = more;
             }
         }
@@ -73,7 +74,8 @@ pub fn count_of(forms: &[Form]) -> usize
     forms.len()
 }
 
-/// What is wrong with a head by its declared number of arguments, where it is declared. The list stands at `at`.
+/// What is wrong with a head by its declared number of arguments, where it is declared. The list
+/// stands at `at`.
 pub fn arity_fault(arity: Option<u32>, head: u32, at: u32, arguments: &[Form]) -> Option<Fault>
     ensures { result ≡ first (arity_faults arity head at (trees_of arguments.now)) }
 {
@@ -89,20 +91,32 @@ pub fn arity_fault(arity: Option<u32>, head: u32, at: u32, arguments: &[Form]) -
     }
 }
 
-/// The first fault of a list of a name of this table and its arguments, in a duration or elsewhere.
+/// The first fault of a list of a name of this table and its arguments.
 #[tactic(auto, using(crate::proofs::Firsts::first_append))]
 pub fn atom_fault(
-    duration: bool,
-    scope: &Scope,
+    context: &Context<'_>,
     table: &Table,
-    variables: &Names,
     at: u32,
     head: &Word,
     arguments: &[Form],
 ) -> Option<Fault>
-    ensures { result ≡ first (atom_faults duration scope.now table.now variables.now at head.now.at head.now.text (trees_of arguments.now)) }
+    ensures { result ≡ first (atom_faults (setting_of context.now) table.now at head.now.at
+        head.now.text (trees_of arguments.now)) }
 {
     let arity = arity_fault(table.value(head.text.as_slice()), head.at, at, arguments);
-    let terms = terms_fault(duration, scope, variables, arguments);
+    let terms = terms_fault(context, arguments);
     earlier(name_fault(head), earlier(arity, terms))
+}
+
+/// The first fault of a list of a predicate and its arguments.
+pub fn predicate_fault(
+    context: &Context<'_>,
+    at: u32,
+    head: &Word,
+    arguments: &[Form],
+) -> Option<Fault>
+    ensures { result ≡ first (predicate_faults (setting_of context.now) at head.now.at head.now.text
+        (trees_of arguments.now)) }
+{
+    atom_fault(context, &context.scope.predicates, at, head, arguments)
 }

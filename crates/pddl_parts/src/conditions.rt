@@ -2,63 +2,31 @@ ghost use Rattle.std.specs.Prelude.{◌≡◌};
 ghost use Rattle.pddl_tokens.specs.Numbers.{IsScale};
 ghost use Rattle.pddl_tokens.specs.Trees.{trees_of};
 ghost use Rattle.pddl_parts.specs.First.{first};
-ghost use Rattle.pddl_parts.specs.Conditions.{is_order, has_form, is_atom_word, last_operand_faults, compared_faults, last_term_faults, equal_faults, may_be_term, may_be_equality, negated_list_faults, negated_faults, condition_faults, conditions_faults};
+ghost use Rattle.pddl_parts.specs.Settings.{setting_of};
+ghost use Rattle.pddl_parts.specs.Conditions.{last_operand_faults, compared_faults, last_term_faults, equal_faults, negated_list_faults, negated_faults, condition_faults, conditions_faults};
 
-use crate::atoms::{atom_fault, term_fault};
+use crate::atoms::{predicate_fault, term_fault};
 use crate::expressions::{expression_fault, numeral_fault};
 use crate::faults::{Fault, Kind};
 use crate::first::{earlier, fault};
+use crate::literals::{is_literal, misfit_list, misfit_word};
 use crate::members::{extra_fault, surplus_fault};
-use crate::names::Names;
-use crate::scope::Scope;
-use crate::words::{is_left_out, is_symbol, misfit_list, misfit_word};
+use crate::scope::Context;
+use crate::words::{is_atom_word, is_order};
 use pddl_tokens::{Form, Head, Word, head_of, is_numeral};
 
-/// Whether a word is an order of numbers.
-pub fn is_order(text: &[u8]) -> bool
-    ensures { result ≡ is_order text.now }
-{
-    text == b"<".as_slice()
-        || text == b"<=".as_slice()
-        || text == b">=".as_slice()
-        || text == b">".as_slice()
-}
-
-/// Whether a word has a form of its own where a condition stands.
-fn has_form(text: &[u8]) -> bool
-    ensures { result ≡ has_form text.now }
-{
-    text == b"and".as_slice()
-        || text == b"not".as_slice()
-        || text == b"=".as_slice()
-        || is_order(text)
-}
-
-/// Whether an atom may begin with a word that has no form of its own there.
-pub fn is_atom_word(word: &Word) -> bool
-    ensures { result ≡ is_atom_word word.now.text }
-{
-    is_symbol(word) && !is_left_out(word.text.as_slice())
-}
-
-/// The first fault where an expression is to be the last member, in a duration or elsewhere.
+/// The first fault where an expression is to be the last member.
 #[tactic(auto, using(crate::proofs::Firsts::first_append))]
-pub fn last_operand_fault(
-    duration: bool,
-    scope: &Scope,
-    variables: &Names,
-    scale: u32,
-    close: u32,
-    operands: &[Form],
-) -> Option<Fault>
-    requires { IsScale scale }
-    ensures { result ≡ first (last_operand_faults duration scope.now variables.now scale close (trees_of operands.now)) }
+pub fn last_operand_fault(context: &Context<'_>, close: u32, operands: &[Form]) -> Option<Fault>
+    requires { IsScale context.now.scale }
+    ensures { result ≡ first (last_operand_faults (setting_of context.now) close
+        (trees_of operands.now)) }
 {
     match head_of(operands) {
         Head::Missing => fault(Kind::Shape, close),
         Head::Word(word, rest) => earlier(
-            numeral_fault(duration, scale, word),
-            extra_fault(duration, rest),
+            numeral_fault(context, word),
+            extra_fault(context.place, rest),
         ),
         Head::List {
             at,
@@ -66,29 +34,24 @@ pub fn last_operand_fault(
             parts,
             rest,
         } => {
-            let operation = expression_fault(duration, scope, variables, scale, at, close, parts);
-            earlier(operation, extra_fault(duration, rest))
+            let operation = expression_fault(context, at, close, parts);
+            earlier(operation, extra_fault(context.place, rest))
         }
     }
 }
 
 /// The first fault of the two expressions of a comparison.
 #[tactic(auto, using(crate::proofs::Firsts::first_append))]
-fn compared_fault(
-    scope: &Scope,
-    variables: &Names,
-    scale: u32,
-    close: u32,
-    operands: &[Form],
-) -> Option<Fault>
-    requires { IsScale scale }
-    ensures { result ≡ first (compared_faults scope.now variables.now scale close (trees_of operands.now)) }
+fn compared_fault(context: &Context<'_>, close: u32, operands: &[Form]) -> Option<Fault>
+    requires { IsScale context.now.scale }
+    ensures { result ≡ first (compared_faults (setting_of context.now) close
+        (trees_of operands.now)) }
 {
     match head_of(operands) {
         Head::Missing => fault(Kind::Shape, close),
         Head::Word(word, rest) => {
-            let last = last_operand_fault(false, scope, variables, scale, close, rest);
-            earlier(numeral_fault(false, scale, word), last)
+            let last = last_operand_fault(context, close, rest);
+            earlier(numeral_fault(context, word), last)
         }
         Head::List {
             at,
@@ -96,26 +59,21 @@ fn compared_fault(
             parts,
             rest,
         } => {
-            let operation = expression_fault(false, scope, variables, scale, at, end, parts);
-            earlier(
-                operation,
-                last_operand_fault(false, scope, variables, scale, close, rest),
-            )
+            let operation = expression_fault(context, at, end, parts);
+            earlier(operation, last_operand_fault(context, close, rest))
         }
     }
 }
 
 /// The first fault where a term is to be the last member.
 #[tactic(auto, using(crate::proofs::Firsts::first_append))]
-fn last_term_fault(scope: &Scope, variables: &Names, close: u32, terms: &[Form]) -> Option<Fault>
-    ensures { result ≡ first (last_term_faults scope.now variables.now close (trees_of terms.now)) }
+fn last_term_fault(context: &Context<'_>, close: u32, terms: &[Form]) -> Option<Fault>
+    ensures { result ≡ first (last_term_faults (setting_of context.now) close
+        (trees_of terms.now)) }
 {
     match head_of(terms) {
         Head::Missing => fault(Kind::Shape, close),
-        Head::Word(word, rest) => earlier(
-            term_fault(false, scope, variables, word),
-            surplus_fault(rest),
-        ),
+        Head::Word(word, rest) => earlier(term_fault(context, word), surplus_fault(rest)),
         Head::List {
             at,
             parts,
@@ -127,25 +85,19 @@ fn last_term_fault(scope: &Scope, variables: &Names, close: u32, terms: &[Form])
 
 /// The first fault behind `=`.
 #[tactic(auto, using(crate::proofs::Firsts::first_append))]
-fn equal_fault(
-    scope: &Scope,
-    variables: &Names,
-    scale: u32,
-    close: u32,
-    members: &[Form],
-) -> Option<Fault>
-    requires { IsScale scale }
-    ensures { result ≡ first (equal_faults scope.now variables.now scale close (trees_of members.now)) }
+fn equal_fault(context: &Context<'_>, close: u32, members: &[Form]) -> Option<Fault>
+    requires { IsScale context.now.scale }
+    ensures { result ≡ first (equal_faults (setting_of context.now) close (trees_of members.now)) }
 {
     match head_of(members) {
         Head::Missing => fault(Kind::Shape, close),
         Head::Word(word, rest) => {
             if is_numeral(word) {
-                let last = last_operand_fault(false, scope, variables, scale, close, rest);
-                earlier(numeral_fault(false, scale, word), last)
+                let last = last_operand_fault(context, close, rest);
+                earlier(numeral_fault(context, word), last)
             } else {
-                let last = last_term_fault(scope, variables, close, rest);
-                earlier(term_fault(false, scope, variables, word), last)
+                let last = last_term_fault(context, close, rest);
+                earlier(term_fault(context, word), last)
             }
         }
         Head::List {
@@ -154,60 +106,33 @@ fn equal_fault(
             parts,
             rest,
         } => {
-            let operation = expression_fault(false, scope, variables, scale, at, end, parts);
-            earlier(
-                operation,
-                last_operand_fault(false, scope, variables, scale, close, rest),
-            )
+            let operation = expression_fault(context, at, end, parts);
+            earlier(operation, last_operand_fault(context, close, rest))
         }
-    }
-}
-
-/// Whether the first member may be a term, where one is there.
-pub fn may_be_term(members: &[Form]) -> bool
-    ensures { result ≡ may_be_term (trees_of members.now) }
-{
-    match head_of(members) {
-        Head::Missing => true,
-        Head::Word(word, _) => !is_numeral(word),
-        Head::List { .. } => false,
-    }
-}
-
-/// Whether members behind `=` are of an object equality, as far as they go.
-pub fn may_be_equality(members: &[Form]) -> bool
-    ensures { result ≡ may_be_equality (trees_of members.now) }
-{
-    match head_of(members) {
-        Head::Missing => true,
-        Head::Word(word, rest) => !is_numeral(word) && may_be_term(rest),
-        Head::List { .. } => false,
     }
 }
 
 /// The first fault of a list behind `not`, which stands at `before`.
 fn negated_list_fault(
-    scope: &Scope,
-    variables: &Names,
-    scale: u32,
+    context: &Context<'_>,
     before: u32,
     at: u32,
     close: u32,
     parts: &[Form],
 ) -> Option<Fault>
-    requires { IsScale scale }
-    ensures { result ≡ first (negated_list_faults scope.now variables.now scale before at close (trees_of parts.now)) }
+    requires { IsScale context.now.scale }
+    ensures { result ≡ first (negated_list_faults (setting_of context.now) before at close
+        (trees_of parts.now)) }
 {
     match head_of(parts) {
         Head::Missing | Head::List { .. } => fault(Kind::LeftOut, before),
         Head::Word(head, rest) => {
-            let text = head.text.as_slice();
-            if text == b"=".as_slice() && may_be_equality(rest) {
-                equal_fault(scope, variables, scale, close, rest)
-            } else if is_atom_word(head) && !has_form(text) {
-                atom_fault(false, scope, &scope.predicates, variables, at, head, rest)
-            } else {
+            if !is_literal(head, rest) {
                 fault(Kind::LeftOut, before)
+            } else if head.text.as_slice() == b"=".as_slice() {
+                equal_fault(context, close, rest)
+            } else {
+                predicate_fault(context, at, head, rest)
             }
         }
     }
@@ -215,16 +140,10 @@ fn negated_list_fault(
 
 /// The first fault behind `not`, which stands at `before`.
 #[tactic(auto, using(crate::proofs::Firsts::first_append))]
-fn negated_fault(
-    scope: &Scope,
-    variables: &Names,
-    scale: u32,
-    before: u32,
-    close: u32,
-    members: &[Form],
-) -> Option<Fault>
-    requires { IsScale scale }
-    ensures { result ≡ first (negated_faults scope.now variables.now scale before close (trees_of members.now)) }
+fn negated_fault(context: &Context<'_>, before: u32, close: u32, members: &[Form]) -> Option<Fault>
+    requires { IsScale context.now.scale }
+    ensures { result ≡ first (negated_faults (setting_of context.now) before close
+        (trees_of members.now)) }
 {
     match head_of(members) {
         Head::Missing => fault(Kind::Shape, close),
@@ -235,25 +154,19 @@ fn negated_fault(
             parts,
             rest,
         } => {
-            let list = negated_list_fault(scope, variables, scale, before, at, close, parts);
+            let list = negated_list_fault(context, before, at, close, parts);
             earlier(list, surplus_fault(rest))
         }
     }
 }
 
-/// The first fault of a list that is to be a condition: a conjunction, a literal, an object equality or a comparison.
-/// It stands at `at`, closes at `close`; numbers are whole at `scale`.
+/// The first fault of a list that is to be a condition: a conjunction, a literal, an object
+/// equality or a comparison. It stands at `at` and closes at `close`.
 #[cycle(conditions)]
-pub fn condition_fault(
-    scope: &Scope,
-    variables: &Names,
-    scale: u32,
-    at: u32,
-    close: u32,
-    parts: &[Form],
-) -> Option<Fault>
-    requires { IsScale scale }
-    ensures { result ≡ first (condition_faults scope.now variables.now scale at close (trees_of parts.now)) }
+pub fn condition_fault(context: &Context<'_>, at: u32, close: u32, parts: &[Form]) -> Option<Fault>
+    requires { IsScale context.now.scale }
+    ensures { result ≡ first (condition_faults (setting_of context.now) at close
+        (trees_of parts.now)) }
 {
     match head_of(parts) {
         Head::Missing => None,
@@ -261,15 +174,15 @@ pub fn condition_fault(
         Head::Word(head, rest) => {
             let text = head.text.as_slice();
             if text == b"and".as_slice() {
-                conditions_fault(scope, variables, scale, rest)
+                conditions_fault(context, rest)
             } else if text == b"not".as_slice() {
-                negated_fault(scope, variables, scale, head.at, close, rest)
+                negated_fault(context, head.at, close, rest)
             } else if text == b"=".as_slice() {
-                equal_fault(scope, variables, scale, close, rest)
+                equal_fault(context, close, rest)
             } else if is_order(text) {
-                compared_fault(scope, variables, scale, close, rest)
+                compared_fault(context, close, rest)
             } else if is_atom_word(head) {
-                atom_fault(false, scope, &scope.predicates, variables, at, head, rest)
+                predicate_fault(context, at, head, rest)
             } else {
                 misfit_list(at, parts)
             }
@@ -280,9 +193,9 @@ pub fn condition_fault(
 /// The first fault of some conditions.
 #[cycle(conditions)]
 #[tactic(auto, using(crate::proofs::Firsts::first_onto))]
-fn conditions_fault(scope: &Scope, variables: &Names, scale: u32, forms: &[Form]) -> Option<Fault>
-    requires { IsScale scale }
-    ensures { result ≡ first (conditions_faults scope.now variables.now scale (trees_of forms.now)) }
+fn conditions_fault(context: &Context<'_>, forms: &[Form]) -> Option<Fault>
+    requires { IsScale context.now.scale }
+    ensures { result ≡ first (conditions_faults (setting_of context.now) (trees_of forms.now)) }
 {
     let mut best = None;
     let mut rest = forms;
@@ -299,7 +212,7 @@ fn conditions_fault(scope: &Scope, variables: &Names, scale: u32, forms: &[Form]
                 parts,
                 rest: more,
             } => {
-                let condition = condition_fault(scope, variables, scale, at, close, parts);
+                let condition = condition_fault(context, at, close, parts);
                 best = earlier(best, condition);
                 rest = more;
             }

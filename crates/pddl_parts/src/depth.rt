@@ -12,7 +12,8 @@ fn one_deeper(first: u32, second: u32) -> u32
     if deeper < 33 { deeper + 1 } else { deeper }
 }
 
-/// How many operations stand in one another in an expression's list, counted up to 33. A sum is grouped from the left.
+/// How many operations stand in one another in an expression's list, counted up to 33. A sum is
+/// grouped from the left.
 #[cycle(depth)]
 pub fn depth_of(parts: &[Form]) -> u32
     ensures { result ≡ depth_of (trees_of parts.now) }

@@ -2,41 +2,28 @@ ghost use Rattle.std.specs.Prelude.{◌≡◌};
 ghost use Rattle.pddl_tokens.specs.Numbers.{IsScale};
 ghost use Rattle.pddl_tokens.specs.Trees.{trees_of};
 ghost use Rattle.pddl_parts.specs.First.{first};
-ghost use Rattle.pddl_parts.specs.Effects.{is_update, has_effect_form, function_faults, update_faults, deleted_list_faults, deleted_faults, effect_faults, effects_faults};
+ghost use Rattle.pddl_parts.specs.Settings.{setting_of};
+ghost use Rattle.pddl_parts.specs.Effects.{function_faults, update_faults, deleted_list_faults, deleted_faults, effect_faults, effects_faults};
 
-use crate::atoms::atom_fault;
-use crate::conditions::{is_atom_word, last_operand_fault};
+use crate::atoms::{atom_fault, predicate_fault};
+use crate::conditions::last_operand_fault;
 use crate::faults::{Fault, Kind};
 use crate::first::{earlier, fault};
+use crate::literals::{is_literal, misfit_list, misfit_word};
 use crate::members::surplus_fault;
-use crate::names::Names;
-use crate::scope::Scope;
-use crate::words::{misfit_list, misfit_word};
+use crate::scope::Context;
+use crate::words::{is_atom_word, is_head_word, is_update};
 use pddl_tokens::{Form, Head, head_of};
 
-/// Whether a word begins an update of a fluent.
-pub fn is_update(text: &[u8]) -> bool
-    ensures { result ≡ is_update text.now }
-{
-    text == b"increase".as_slice() || text == b"decrease".as_slice() || text == b"assign".as_slice()
-}
-
-/// Whether a word has a form of its own where an effect stands.
-fn has_effect_form(text: &[u8]) -> bool
-    ensures { result ≡ has_effect_form text.now }
-{
-    text == b"and".as_slice() || text == b"not".as_slice() || is_update(text)
-}
-
 /// The first fault of a list that is to be a function with its arguments.
-fn function_fault(scope: &Scope, variables: &Names, at: u32, parts: &[Form]) -> Option<Fault>
-    ensures { result ≡ first (function_faults scope.now variables.now at (trees_of parts.now)) }
+fn function_fault(context: &Context<'_>, at: u32, parts: &[Form]) -> Option<Fault>
+    ensures { result ≡ first (function_faults (setting_of context.now) at (trees_of parts.now)) }
 {
     match head_of(parts) {
         Head::Missing | Head::List { .. } => misfit_list(at, parts),
         Head::Word(head, rest) => {
-            if is_atom_word(head) {
-                atom_fault(false, scope, &scope.functions, variables, at, head, rest)
+            if is_head_word(head) {
+                atom_fault(context, &context.scope.functions, at, head, rest)
             } else {
                 misfit_list(at, parts)
             }
@@ -46,20 +33,14 @@ fn function_fault(scope: &Scope, variables: &Names, at: u32, parts: &[Form]) -> 
 
 /// The first fault of what is updated, and by what.
 #[tactic(auto, using(crate::proofs::Firsts::first_append))]
-fn update_fault(
-    scope: &Scope,
-    variables: &Names,
-    scale: u32,
-    close: u32,
-    members: &[Form],
-) -> Option<Fault>
-    requires { IsScale scale }
-    ensures { result ≡ first (update_faults scope.now variables.now scale close (trees_of members.now)) }
+fn update_fault(context: &Context<'_>, close: u32, members: &[Form]) -> Option<Fault>
+    requires { IsScale context.now.scale }
+    ensures { result ≡ first (update_faults (setting_of context.now) close (trees_of members.now)) }
 {
     match head_of(members) {
         Head::Missing => fault(Kind::Shape, close),
         Head::Word(word, rest) => {
-            let value = last_operand_fault(false, scope, variables, scale, close, rest);
+            let value = last_operand_fault(context, close, rest);
             earlier(misfit_word(word), value)
         }
         Head::List {
@@ -68,27 +49,22 @@ fn update_fault(
             rest,
             ..
         } => {
-            let value = last_operand_fault(false, scope, variables, scale, close, rest);
-            earlier(function_fault(scope, variables, at, parts), value)
+            let value = last_operand_fault(context, close, rest);
+            earlier(function_fault(context, at, parts), value)
         }
     }
 }
 
 /// The first fault of a list behind `not`, which stands at `before`.
-fn deleted_list_fault(
-    scope: &Scope,
-    variables: &Names,
-    before: u32,
-    at: u32,
-    parts: &[Form],
-) -> Option<Fault>
-    ensures { result ≡ first (deleted_list_faults scope.now variables.now before at (trees_of parts.now)) }
+fn deleted_list_fault(context: &Context<'_>, before: u32, at: u32, parts: &[Form]) -> Option<Fault>
+    ensures { result ≡ first (deleted_list_faults (setting_of context.now) before at
+        (trees_of parts.now)) }
 {
     match head_of(parts) {
         Head::Missing | Head::List { .. } => fault(Kind::LeftOut, before),
         Head::Word(head, rest) => {
-            if is_atom_word(head) && !has_effect_form(head.text.as_slice()) {
-                atom_fault(false, scope, &scope.predicates, variables, at, head, rest)
+            if is_literal(head, rest) {
+                predicate_fault(context, at, head, rest)
             } else {
                 fault(Kind::LeftOut, before)
             }
@@ -98,14 +74,9 @@ fn deleted_list_fault(
 
 /// The first fault behind `not`, which stands at `before`.
 #[tactic(auto, using(crate::proofs::Firsts::first_append))]
-fn deleted_fault(
-    scope: &Scope,
-    variables: &Names,
-    before: u32,
-    close: u32,
-    members: &[Form],
-) -> Option<Fault>
-    ensures { result ≡ first (deleted_faults scope.now variables.now before close (trees_of members.now)) }
+fn deleted_fault(context: &Context<'_>, before: u32, close: u32, members: &[Form]) -> Option<Fault>
+    ensures { result ≡ first (deleted_faults (setting_of context.now) before close
+        (trees_of members.now)) }
 {
     match head_of(members) {
         Head::Missing => fault(Kind::Shape, close),
@@ -116,25 +87,19 @@ fn deleted_fault(
             rest,
             ..
         } => {
-            let list = deleted_list_fault(scope, variables, before, at, parts);
+            let list = deleted_list_fault(context, before, at, parts);
             earlier(list, surplus_fault(rest))
         }
     }
 }
 
-/// The first fault of a list that is to be an effect of an action: a conjunction, a literal or an update.
-/// It stands at `at`, closes at `close`; numbers are whole at `scale`.
+/// The first fault of a list that is to be an effect of an action: a conjunction, a literal or an
+/// update. It stands at `at` and closes at `close`.
 #[cycle(effects)]
-pub fn effect_fault(
-    scope: &Scope,
-    variables: &Names,
-    scale: u32,
-    at: u32,
-    close: u32,
-    parts: &[Form],
-) -> Option<Fault>
-    requires { IsScale scale }
-    ensures { result ≡ first (effect_faults scope.now variables.now scale at close (trees_of parts.now)) }
+pub fn effect_fault(context: &Context<'_>, at: u32, close: u32, parts: &[Form]) -> Option<Fault>
+    requires { IsScale context.now.scale }
+    ensures { result ≡ first (effect_faults (setting_of context.now) at close
+        (trees_of parts.now)) }
 {
     match head_of(parts) {
         Head::Missing => None,
@@ -142,13 +107,13 @@ pub fn effect_fault(
         Head::Word(head, rest) => {
             let text = head.text.as_slice();
             if text == b"and".as_slice() {
-                effects_fault(scope, variables, scale, rest)
+                effects_fault(context, rest)
             } else if text == b"not".as_slice() {
-                deleted_fault(scope, variables, head.at, close, rest)
+                deleted_fault(context, head.at, close, rest)
             } else if is_update(text) {
-                update_fault(scope, variables, scale, close, rest)
+                update_fault(context, close, rest)
             } else if is_atom_word(head) {
-                atom_fault(false, scope, &scope.predicates, variables, at, head, rest)
+                predicate_fault(context, at, head, rest)
             } else {
                 misfit_list(at, parts)
             }
@@ -159,9 +124,9 @@ pub fn effect_fault(
 /// The first fault of some effects.
 #[cycle(effects)]
 #[tactic(auto, using(crate::proofs::Firsts::first_onto))]
-fn effects_fault(scope: &Scope, variables: &Names, scale: u32, forms: &[Form]) -> Option<Fault>
-    requires { IsScale scale }
-    ensures { result ≡ first (effects_faults scope.now variables.now scale (trees_of forms.now)) }
+fn effects_fault(context: &Context<'_>, forms: &[Form]) -> Option<Fault>
+    requires { IsScale context.now.scale }
+    ensures { result ≡ first (effects_faults (setting_of context.now) (trees_of forms.now)) }
 {
     let mut best = None;
     let mut rest = forms;
@@ -178,7 +143,7 @@ fn effects_fault(scope: &Scope, variables: &Names, scale: u32, forms: &[Form]) -
                 parts,
                 rest: more,
             } => {
-                let effect = effect_fault(scope, variables, scale, at, close, parts);
+                let effect = effect_fault(context, at, close, parts);
                 best = earlier(best, effect);
                 rest = more;
             }

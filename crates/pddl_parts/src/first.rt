@@ -29,7 +29,8 @@ fn goes_before(a: Fault, b: Fault) -> bool
     a.at < b.at || a.at == b.at && rank(a.kind) < rank(b.kind)
 }
 
-/// The first of two faults: the one at the lower byte, at one byte the one whose kind is listed first.
+/// The first of two faults: the one at the lower byte, at one byte the one whose kind is listed
+/// first.
 pub fn earlier(a: Option<Fault>, b: Option<Fault>) -> Option<Fault>
     ensures { result ≡ earlier a b }
 {
@@ -47,7 +48,8 @@ pub fn fault(kind: Kind, at: u32) -> Option<Fault>
     Some(Fault { at, kind })
 }
 
-/// The first of some faults is one of them, and none of them goes before it; without a first one there is none.
+/// The first of some faults is one of them, and none of them goes before it; without a first one
+/// there is none.
 #[tactic(auto, using(crate::proofs::Least::first_least, crate::proofs::Least::first_none))]
 pub fn first_is_least()
     ensures some { (fs : List Found) (f : Found) → first fs ≡ Some f → IsLeast f fs }

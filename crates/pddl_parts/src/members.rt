@@ -5,7 +5,9 @@ ghost use Rattle.pddl_parts.specs.Members.{others_faults, surplus_faults, extra_
 
 use crate::faults::{Fault, Kind};
 use crate::first::{earlier, fault};
-use crate::words::{begins_with, misfit_list, misfit_word, name_fault, unfit_list, unfit_word};
+use crate::literals::{misfit_list, name_fault, unfit_list, unfit_word};
+use crate::scope::Place;
+use crate::words::begins_with;
 use pddl_tokens::{Form, Head, head_of};
 
 /// The first of the forms behind the file's first one.
@@ -32,8 +34,8 @@ pub fn others_fault(forms: &[Form]) -> Option<Fault>
 
 /// The first fault of members that stand where none may.
 #[tactic(auto, using(crate::proofs::Firsts::first_onto))]
-pub fn surplus_fault(forms: &[Form]) -> Option<Fault>
-    ensures { result ≡ first (surplus_faults (trees_of forms.now)) }
+pub fn extra_fault(place: Place, forms: &[Form]) -> Option<Fault>
+    ensures { result ≡ first (extra_faults place (trees_of forms.now)) }
 {
     let mut best = None;
     let mut rest = forms;
@@ -41,7 +43,7 @@ pub fn surplus_fault(forms: &[Form]) -> Option<Fault>
         match head_of(rest) {
             Head::Missing => return best,
             Head::Word(word, more) => {
-                best = earlier(best, misfit_word(word));
+                best = earlier(best, unfit_word(place, word));
                 rest = more;
             }
             Head::List {
@@ -50,38 +52,18 @@ pub fn surplus_fault(forms: &[Form]) -> Option<Fault>
                 rest: more,
                 ..
             } => {
-                best = earlier(best, misfit_list(at, parts));
+                best = earlier(best, unfit_list(place, at, parts));
                 rest = more;
             }
         }
     }
 }
 
-/// The first fault of members that stand where none may, in a duration or elsewhere.
-#[tactic(auto, using(crate::proofs::Firsts::first_onto))]
-pub fn extra_fault(duration: bool, forms: &[Form]) -> Option<Fault>
-    ensures { result ≡ first (extra_faults duration (trees_of forms.now)) }
+/// The first fault of members that stand where none may, outside durations.
+pub fn surplus_fault(forms: &[Form]) -> Option<Fault>
+    ensures { result ≡ first (surplus_faults (trees_of forms.now)) }
 {
-    let mut best = None;
-    let mut rest = forms;
-    'members: loop {
-        match head_of(rest) {
-            Head::Missing => return best,
-            Head::Word(word, more) => {
-                best = earlier(best, unfit_word(duration, word));
-                rest = more;
-            }
-            Head::List {
-                at,
-                parts,
-                rest: more,
-                ..
-            } => {
-                best = earlier(best, unfit_list(duration, at, parts));
-                rest = more;
-            }
-        }
-    }
+    extra_fault(Place::Elsewhere, forms)
 }
 
 /// The first fault where one name is to stand before the closing parenthesis.

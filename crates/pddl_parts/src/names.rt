@@ -8,7 +8,8 @@ use std::alloc::Global;
 use std::marker::Model;
 use tp_spec::NoMemory;
 
-/// A set of names, numbered from 0 in the order in which they were entered. Contracts see the list of their bytes.
+/// A set of names, numbered from 0 in the order in which they were entered. Contracts see the list
+/// of their bytes.
 #[derive(Drop)]
 pub struct Names {
     names: IndexSet<Vec<u8>>,
@@ -32,7 +33,8 @@ impl Names {
         }
     }
 
-    /// Puts a name behind the others unless it is there, and answers its number and whether it is new.
+    /// Puts a name behind the others unless it is there, and answers its number and whether it is
+    /// new.
     pub fn enter(&mut self, alloc: Global, name: &[u8]) -> Result<(usize, bool), NoMemory>
         ensures table { OnOk result (self.new ≡ with_name self.old name.now) }
         ensures place { IfOk result (λ r. r.0 ≡ position_or_len (bytes_eq name.now) self.old) }

@@ -5,15 +5,15 @@ ghost use Rattle.pddl_parts.specs.Typed.{item_faults, type_faults, next, next_of
 
 use crate::faults::{Fault, Kind};
 use crate::first::{earlier, fault};
+use crate::literals::{misfit_list, name_fault, variable_fault};
 use crate::names::Names;
-use crate::words::{
-    is_dash, is_left_out, is_name, is_variable, misfit_list, name_fault, variable_fault,
-};
+use crate::words::{is_dash, is_left_out, is_name, is_variable};
 use pddl_tokens::{Form, Head, Word, head_of};
 use std::alloc::Global;
 use tp_spec::NoMemory;
 
-/// What the items and types of a typed list are: variables or names, and any names or declared ones.
+/// What the items and types of a typed list are: variables or names, and any names or declared
+/// ones.
 #[derive(Clone, Copy, Debug, PartialEq, Eq)]
 pub struct Rule {
     /// Items are variables; else they are names.
@@ -113,7 +113,8 @@ pub fn end_fault(part: Part, close: u32) -> Option<Fault>
     }
 }
 
-/// The first fault of a typed list, but for items that come again. `close` is its closing parenthesis.
+/// The first fault of a typed list, but for items that come again. `close` is its closing
+/// parenthesis.
 #[tactic(auto, using(crate::proofs::Firsts::first_onto))]
 pub fn typed_fault(rule: Rule, types: &Names, close: u32, forms: &[Form]) -> Option<Fault>
     ensures { result ≡ first (typed_faults rule types.now close Part.Start (trees_of forms.now)) }
@@ -167,7 +168,8 @@ pub fn enter_item(
     seen: &mut Names,
     word: &Word,
 ) -> Result<Option<Fault>, NoMemory>
-    ensures fault { IfOk result (λ fault. fault ≡ first (again_faults item seen.old word.now.at word.now.text)) }
+    ensures fault { IfOk result (λ fault. fault
+        ≡ first (again_faults item seen.old word.now.at word.now.text)) }
     ensures seen { OnOk result (seen.new ≡ with_item item seen.old word.now.text) }
 {
     if !item {
@@ -181,7 +183,8 @@ pub fn enter_item(
     }
 }
 
-/// The first item of a typed list that came before, in the list or among the names given, which are entered.
+/// The first item of a typed list that came before, in the list or among the names given, which are
+/// entered.
 #[tactic(auto, using(crate::proofs::Firsts::first_onto))]
 pub fn repeat_fault(
     alloc: Global,
@@ -189,7 +192,8 @@ pub fn repeat_fault(
     mut seen: Names,
     forms: &[Form],
 ) -> Result<Option<Fault>, NoMemory>
-    ensures { IfOk result (λ fault. fault ≡ first (repeat_faults rule seen Part.Start (trees_of forms.now))) }
+    ensures { IfOk result (λ fault. fault
+        ≡ first (repeat_faults rule seen Part.Start (trees_of forms.now))) }
 {
     let mut best = None;
     let mut part = Part::Start;

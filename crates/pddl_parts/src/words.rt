@@ -1,13 +1,9 @@
 ghost use Rattle.std.specs.Prelude.{◌≡◌};
 ghost use Rattle.std.specs.List.{list_all};
 ghost use Rattle.tp_spec.specs.WellFormed.{is_name_byte};
-ghost use Rattle.pddl_tokens.specs.Trees.{trees_of};
-ghost use Rattle.pddl_parts.specs.First.{first};
-ghost use Rattle.pddl_parts.specs.Words.{is_logic_left_out, is_rest_left_out, is_left_out, misfit_word, misfit_list, is_left_out_in, unfit_word, unfit_list, begins_with, is_dash, is_symbol, is_name, is_thing, is_variable, name_faults, variable_faults};
+ghost use Rattle.pddl_parts.specs.Words.{is_logic_left_out, is_rest_left_out, is_left_out, begins_with, is_dash, is_symbol, is_name, is_thing, is_variable, is_atom_word, is_head_word, is_order, is_update};
 
-use crate::faults::{Fault, Kind};
-use crate::first::fault;
-use pddl_tokens::{Form, Head, Word, head_of, is_numeral};
+use pddl_tokens::{Word, is_numeral};
 
 fn is_logic_left_out(text: &[u8]) -> bool
     ensures { result ≡ is_logic_left_out text.now }
@@ -39,67 +35,6 @@ pub fn is_left_out(text: &[u8]) -> bool
     ensures { result ≡ is_left_out text.now }
 {
     is_logic_left_out(text) || is_rest_left_out(text)
-}
-
-/// What is wrong with a word that fits nowhere here.
-pub fn misfit_word(word: &Word) -> Option<Fault>
-    ensures { result ≡ first (misfit_word word.now.at word.now.text) }
-{
-    if is_left_out(word.text.as_slice()) {
-        fault(Kind::LeftOut, word.at)
-    } else {
-        fault(Kind::Shape, word.at)
-    }
-}
-
-/// What is wrong with a list that fits nowhere here.
-pub fn misfit_list(at: u32, parts: &[Form]) -> Option<Fault>
-    ensures { result ≡ first (misfit_list at (trees_of parts.now)) }
-{
-    match head_of(parts) {
-        Head::Missing | Head::List { .. } => fault(Kind::Shape, at),
-        Head::Word(head, _) => {
-            if is_left_out(head.text.as_slice()) {
-                fault(Kind::LeftOut, head.at)
-            } else {
-                fault(Kind::Shape, at)
-            }
-        }
-    }
-}
-
-/// Whether a word is of PDDL's parts that are left out; in a duration `?duration` is not.
-pub fn is_left_out_in(duration: bool, text: &[u8]) -> bool
-    ensures { result ≡ is_left_out_in duration text.now }
-{
-    is_left_out(text) && !(duration && text == b"?duration".as_slice())
-}
-
-/// What is wrong with a word that fits nowhere in a duration, or elsewhere.
-pub fn unfit_word(duration: bool, word: &Word) -> Option<Fault>
-    ensures { result ≡ first (unfit_word duration word.now.at word.now.text) }
-{
-    if is_left_out_in(duration, word.text.as_slice()) {
-        fault(Kind::LeftOut, word.at)
-    } else {
-        fault(Kind::Shape, word.at)
-    }
-}
-
-/// What is wrong with a list that fits nowhere in a duration, or elsewhere.
-pub fn unfit_list(duration: bool, at: u32, parts: &[Form]) -> Option<Fault>
-    ensures { result ≡ first (unfit_list duration at (trees_of parts.now)) }
-{
-    match head_of(parts) {
-        Head::Missing | Head::List { .. } => fault(Kind::Shape, at),
-        Head::Word(head, _) => {
-            if is_left_out_in(duration, head.text.as_slice()) {
-                fault(Kind::LeftOut, head.at)
-            } else {
-                fault(Kind::Shape, at)
-            }
-        }
-    }
 }
 
 /// Whether a text begins with a byte.
@@ -161,24 +96,34 @@ pub fn is_variable(word: &Word) -> bool
     are_name_bytes(text) && begins_with(b'?', text) && text.len() > 1
 }
 
-/// What is wrong with a word where a name is to stand.
-pub fn name_fault(word: &Word) -> Option<Fault>
-    ensures { result ≡ first (name_faults word.now.at word.now.text) }
+/// Whether an atom, or a function with its arguments, may begin with a word that has no form of its
+/// own there.
+pub fn is_atom_word(word: &Word) -> bool
+    ensures { result ≡ is_atom_word word.now.text }
 {
-    if is_thing(word) {
-        None
-    } else {
-        misfit_word(word)
-    }
+    is_symbol(word) && !is_left_out(word.text.as_slice())
 }
 
-/// What is wrong with a word where a variable is to stand.
-pub fn variable_fault(word: &Word) -> Option<Fault>
-    ensures { result ≡ first (variable_faults word.now.at word.now.text) }
+/// Whether a list that takes no `not` may begin with a word.
+pub fn is_head_word(word: &Word) -> bool
+    ensures { result ≡ is_head_word word.now.text }
 {
-    if is_variable(word) && !is_left_out(word.text.as_slice()) {
-        None
-    } else {
-        misfit_word(word)
-    }
+    is_atom_word(word) && !(word.text.as_slice() == b"not".as_slice())
+}
+
+/// Whether a word is an order of numbers.
+pub fn is_order(text: &[u8]) -> bool
+    ensures { result ≡ is_order text.now }
+{
+    text == b"<".as_slice()
+        || text == b"<=".as_slice()
+        || text == b">=".as_slice()
+        || text == b">".as_slice()
+}
+
+/// Whether a word begins an update of a fluent.
+pub fn is_update(text: &[u8]) -> bool
+    ensures { result ≡ is_update text.now }
+{
+    text == b"increase".as_slice() || text == b"decrease".as_slice() || text == b"assign".as_slice()
 }

@@ -8,4 +8,5 @@ use Rattle.pddl_tokens.specs.Trees.{Trees, Leaf, Node, End, More, trees_of}
 abbrev pub IsHead : Head → Trees → Type 0
 IsHead Missing ts = ts ≡ End
 IsHead (Word w rest) ts = ts ≡ More (Leaf w.now.at w.now.text) (trees_of rest.now)
-IsHead (List at close parts rest) ts = ts ≡ More (Node at close (trees_of parts.now)) (trees_of rest.now)
+IsHead (List at close parts rest) ts =
+    ts ≡ More (Node at close (trees_of parts.now)) (trees_of rest.now)

@@ -4,6 +4,7 @@ use Rattle.std.specs.List.{list_all}
 use Rattle.std.specs.Char.{is_ascii_digit}
 use Rattle.std.specs.Int.Digits.{number_from_digits_after}
 use Rattle.pddl_tokens.specs.declared.numbers.NumberFault.{NumberFault}
+use Rattle.pddl_tokens.specs.declared.numbers.Numeral.{Numeral as Parts}
 use Rattle.pddl_tokens.specs.declared.numbers.NumberFault.TheVariants.{NotNumber, NotWhole, TooLarge}
 
 -- how many ticks are in a unit of time
@@ -16,6 +17,10 @@ pub record Numeral : Type 0 where
   pub whole : List ℕ
   pub part : List ℕ
 
+-- the numeral that parts of a text are
+abbrev pub as_numeral : Parts → Numeral
+as_numeral n = record { minus = n.minus; whole = n.whole.now; part = n.part.now }
+
 -- one digit or more
 abbrev pub are_digits : List ℕ → Bool
 are_digits text = not (nat_eq (length text) 0) && list_all is_ascii_digit text
@@ -25,17 +30,22 @@ are_zeros text = list_all (λ c. nat_eq c 48) text
 
 -- digits before and behind a point
 abbrev pub pointed : Bool → List ℕ → List ℕ → Option Numeral
-pointed minus whole part = if are_digits whole && are_digits part then Some (record { minus = minus; whole = whole; part = part }) else None
+pointed minus whole part =
+    if are_digits whole && are_digits part then
+    Some (record { minus = minus; whole = whole; part = part })
+    else None
 
 -- digits, or digits before and behind the first point
 abbrev pub at_point : Bool → List ℕ → Option ℕ → Option Numeral
-at_point minus text None = if are_digits text then Some (record { minus = minus; whole = text; part = [] }) else None
+at_point minus text None =
+    if are_digits text then Some (record { minus = minus; whole = text; part = [] }) else None
 at_point minus text (Some i) = pointed minus (take i text) (drop (i + 1) text)
 
 abbrev pub unsigned_of : Bool → List ℕ → Option Numeral
 unsigned_of minus text = at_point minus text (position (λ c. nat_eq c 46) text)
 
--- the numeral that a text is, where it is one: an optional minus, digits, and optionally a point and digits
+-- the numeral that a text is, where it is one: an optional minus, digits, and optionally a point
+-- and digits
 abbrev pub numeral_of : List ℕ → Option Numeral
 numeral_of [] = None
 numeral_of (c ∷ rest) = if nat_eq c 45 then unsigned_of true rest else unsigned_of false (c ∷ rest)

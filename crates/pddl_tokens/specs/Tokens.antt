@@ -40,7 +40,8 @@ uncommented_lower text = uncommented false (map lower text)
 abbrev pub byte_order_mark : List ℕ
 byte_order_mark = 0xef ∷ 0xbb ∷ 0xbf ∷ []
 
--- the text with blanks for a byte order mark at its start and for comments, and in lower case; places stay
+-- the text with blanks for a byte order mark at its start and for comments, and in lower case;
+-- places stay
 abbrev pub plain : List ℕ → List ℕ
 plain text =
     if starts_with nat_eq text byte_order_mark then 32 ∷ 32 ∷ 32 ∷ uncommented_lower (drop 3 text)

@@ -12,7 +12,8 @@ use tp_spec::{List, NoMemory};
 /// How many lists may stand in one another.
 const DEPTH: usize = 64;
 
-/// A list that is still open: the members that came before it in the list around it, and its parenthesis.
+/// A list that is still open: the members that came before it in the list around it, and its
+/// parenthesis.
 #[derive(Drop)]
 pub struct Frame {
     pub before: List<Form>,
@@ -39,16 +40,20 @@ impl Builder {
 
     #[tactic(auto, using(crate::proofs::Growth::read_form))]
     fn word(&mut self, word: Word) -> Result<(), NoMemory>
-        ensures read { OnOk result (read_so_far self.new.frames.items self.new.parts ≡ read_so_far self.old.frames.items self.old.parts ++ Spells word.at word.text ∷ []) }
-        ensures stack { OnOk result (stack_of self.new.frames.items ≡ stack_of self.old.frames.items) }
+        ensures read { OnOk result (read_so_far self.new.frames.items self.new.parts
+            ≡ read_so_far self.old.frames.items self.old.parts ++ Spells word.at word.text ∷ []) }
+        ensures stack { OnOk result (stack_of self.new.frames.items
+            ≡ stack_of self.old.frames.items) }
     {
         self.parts.push(single(word))
     }
 
     #[tactic(auto, using(crate::proofs::Growth::read_frame))]
     fn begin(&mut self, alloc: Global, at: u32) -> Result<(), NoMemory>
-        ensures read { OnOk result (read_so_far self.new.frames.items self.new.parts ≡ read_so_far self.old.frames.items self.old.parts ++ Opens at ∷ []) }
-        ensures stack { OnOk result (stack_of self.new.frames.items ≡ at ∷ stack_of self.old.frames.items) }
+        ensures read { OnOk result (read_so_far self.new.frames.items self.new.parts
+            ≡ read_so_far self.old.frames.items self.old.parts ++ Opens at ∷ []) }
+        ensures stack { OnOk result (stack_of self.new.frames.items
+            ≡ at ∷ stack_of self.old.frames.items) }
     {
         let before = mem::replace(&mut self.parts, List::new(alloc));
         match self.frames.push(Frame { before, at }) {
@@ -60,8 +65,11 @@ impl Builder {
     /// Ends the innermost list, and says whether one was open.
     #[tactic(auto, using(crate::proofs::Growth::read_end))]
     fn end(&mut self, alloc: Global, close: u32) -> Result<bool, NoMemory>
-        ensures read { result ≡ Ok true → read_so_far self.new.frames.items self.new.parts ≡ read_so_far self.old.frames.items self.old.parts ++ Closes close ∷ [] }
-        ensures stack { result ≡ Ok true → IsTail (stack_of self.new.frames.items) (stack_of self.old.frames.items) }
+        ensures read { result ≡ Ok true
+            → read_so_far self.new.frames.items self.new.parts
+            ≡ read_so_far self.old.frames.items self.old.parts ++ Closes close ∷ [] }
+        ensures stack { result ≡ Ok true
+            → IsTail (stack_of self.new.frames.items) (stack_of self.old.frames.items) }
         ensures none { result ≡ Ok false → stack_of self.old.frames.items ≡ [] }
     {
         match self.frames.pop() {
@@ -78,8 +86,10 @@ impl Builder {
     /// Reads the word that ends before a place, where there is one.
     pub fn finish_word(&mut self, alloc: Global, at: u32, text: &[u8]) -> Result<(), NoMemory>
         requires { length text.now ≤ at }
-        ensures read { OnOk result (read_so_far self.new.frames.items self.new.parts ≡ read_so_far self.old.frames.items self.old.parts ++ word_before at text.now) }
-        ensures stack { OnOk result (stack_of self.new.frames.items ≡ stack_of self.old.frames.items) }
+        ensures read { OnOk result (read_so_far self.new.frames.items self.new.parts
+            ≡ read_so_far self.old.frames.items self.old.parts ++ word_before at text.now) }
+        ensures stack { OnOk result (stack_of self.new.frames.items
+            ≡ stack_of self.old.frames.items) }
     {
         if text.is_empty() {
             return Ok(());
@@ -96,9 +106,12 @@ impl Builder {
 
     /// Reads the parenthesis at a place, where there is one.
     pub fn mark(&mut self, alloc: Global, at: u32, c: u8) -> Result<(), TextFault>
-        ensures read { OnOk result (read_so_far self.new.frames.items self.new.parts ≡ read_so_far self.old.frames.items self.old.parts ++ mark_at at c) }
-        ensures goes_on { OnOk result (GoesOn (stack_of self.old.frames.items) (stack_of self.new.frames.items) (mark_at at c)) }
-        ensures fault { IfErr result (λ f. IsFaultAmong f (stack_of self.old.frames.items) (mark_at at c)) }
+        ensures read { OnOk result (read_so_far self.new.frames.items self.new.parts
+            ≡ read_so_far self.old.frames.items self.old.parts ++ mark_at at c) }
+        ensures goes_on { OnOk result (GoesOn (stack_of self.old.frames.items)
+            (stack_of self.new.frames.items) (mark_at at c)) }
+        ensures fault { IfErr result (λ f. IsFaultAmong f (stack_of self.old.frames.items)
+            (mark_at at c)) }
     {
         if c == b'(' {
             if self.depth() == DEPTH {

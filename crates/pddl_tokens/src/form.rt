@@ -31,8 +31,8 @@ pub struct Forms {
     pub bytes: u32,
 }
 
-/// Why a text is no row of words and lists, with the offset of the byte: one that is no UTF-8, a parenthesis that
-/// stays open or closes nothing, a list in 64 others. Or memory was refused.
+/// Why a text is no row of words and lists, with the offset of the byte: one that is no UTF-8, a
+/// parenthesis that stays open or closes nothing, a list in 64 others. Or memory was refused.
 #[derive(Clone, Copy, Debug, PartialEq, Eq, Error)]
 pub enum TextFault {
     #[error("the file is not UTF-8 from byte {at} on")]
@@ -89,8 +89,8 @@ pub(crate) fn single(word: Word) -> Form
 /// Lists of at most so many members are copied to memory that just holds them.
 const FEW: usize = 8;
 
-/// Some forms in memory that just holds them, or as they are where that is refused. What a short list grew in then
-/// serves the next one; given back in part, it would stay as a hole.
+/// Some forms in memory that just holds them, or as they are where that is refused. What a short
+/// list grew in then serves the next one; given back in part, it would stay as a hole.
 fn copied(alloc: Global, mut forms: Vec<Form>) -> Vec<Form>
     ensures { result.items ≡ forms.items }
 {
@@ -103,7 +103,8 @@ fn copied(alloc: Global, mut forms: Vec<Form>) -> Vec<Form>
     }
 }
 
-/// A list that holds no memory beyond its members, where that can be had: most lists of a text are short, and all stay.
+/// A list that holds no memory beyond its members, where that can be had: most lists of a text are
+/// short, and all stay.
 fn fitted(alloc: Global, parts: List<Form>) -> List<Form>
     ensures { result ≡ parts }
 {
@@ -116,13 +117,15 @@ fn fitted(alloc: Global, parts: List<Form>) -> List<Form>
 }
 
 pub(crate) fn group(alloc: Global, at: u32, close: u32, parts: List<Form>) -> Form
-    ensures { spelled (tree_of result) ≡ Opens at ∷ (all_spelled (trees_of parts) ++ Closes close ∷ []) }
+    ensures { spelled (tree_of result)
+        ≡ Opens at ∷ (all_spelled (trees_of parts) ++ Closes close ∷ []) }
 {
     let parts = fitted(alloc, parts);
     Form::Group { at, close, parts }
 }
 
-/// Tokens are the spelling of one row of trees at most. So what `read_forms` ensures of its answer leaves no other.
+/// Tokens are the spelling of one row of trees at most. So what `read_forms` ensures of its answer
+/// leaves no other.
 #[tactic(auto, using(crate::proofs::Unique::same_trees))]
 pub fn spelled_once()
     ensures { (ts us : Trees) → all_spelled ts ≡ all_spelled us → ts ≡ us }

@@ -12,6 +12,3 @@ pub use form::{Form, Forms, TextFault, Word, spelled_once};
 pub use look::{Head, head_of};
 pub use numbers::{NumberFault, is_numeral, number};
 pub use reader::read_forms;
-
-#[cfg(test)]
-mod tests;

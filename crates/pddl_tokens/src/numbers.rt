@@ -3,13 +3,13 @@ ghost use Rattle.std.specs.List.{list_all};
 ghost use Rattle.std.specs.Char.{is_ascii_digit};
 ghost use Rattle.std.specs.Option.{option_map};
 ghost use Rattle.std.specs.Int.Digits.{number_from_digits_after};
-ghost use Rattle.pddl_tokens.specs.Numbers.{IsScale, are_digits, are_zeros, numeral_of, unsigned_of, pointed, digit, in_u64, in_range, product_of, number_of};
+ghost use Rattle.pddl_tokens.specs.Numbers.{IsScale, are_digits, are_zeros, as_numeral, numeral_of, unsigned_of, pointed, digit, in_u64, in_range, product_of, number_of};
 
 use crate::form::Word;
 use thiserror::Error;
 
-/// Why a word is no number at a scale: it spells none, or the product by the scale is not whole, or else it is not in
-/// the range of `i64`.
+/// Why a word is no number at a scale: it spells none, or the product by the scale is not whole, or
+/// else it is not in the range of `i64`.
 #[derive(Clone, Copy, Debug, PartialEq, Eq, Error)]
 pub enum NumberFault {
     #[error("no number is spelled")]
@@ -62,7 +62,7 @@ fn point_of(text: &[u8]) -> Option<usize>
 
 /// The numeral of digits before and behind a point, where they are digits.
 fn pointed<'a>(minus: bool, whole: &'a [u8], part: &'a [u8]) -> Option<Numeral<'a>>
-    ensures numeral { option_map (λ n. record { minus = n.minus; whole = n.whole.now; part = n.part.now }) result ≡ pointed minus whole.now part.now }
+    ensures numeral { option_map as_numeral result ≡ pointed minus whole.now part.now }
     ensures digits { IfSome result (λ n. IsTrue (list_all is_ascii_digit n.part.now)) }
 {
     if are_digits(whole) && are_digits(part) {
@@ -74,7 +74,7 @@ fn pointed<'a>(minus: bool, whole: &'a [u8], part: &'a [u8]) -> Option<Numeral<'
 
 /// The numeral that a text without a sign is.
 fn unsigned_of(minus: bool, text: &[u8]) -> Option<Numeral<'_>>
-    ensures numeral { option_map (λ n. record { minus = n.minus; whole = n.whole.now; part = n.part.now }) result ≡ unsigned_of minus text.now }
+    ensures numeral { option_map as_numeral result ≡ unsigned_of minus text.now }
     ensures digits { IfSome result (λ n. IsTrue (list_all is_ascii_digit n.part.now)) }
 {
     match point_of(text) {
@@ -99,7 +99,7 @@ fn unsigned_of(minus: bool, text: &[u8]) -> Option<Numeral<'_>>
 
 /// The numeral that a text is.
 fn numeral_of(text: &[u8]) -> Option<Numeral<'_>>
-    ensures numeral { option_map (λ n. record { minus = n.minus; whole = n.whole.now; part = n.part.now }) result ≡ numeral_of text.now }
+    ensures numeral { option_map as_numeral result ≡ numeral_of text.now }
     ensures digits { IfSome result (λ n. IsTrue (list_all is_ascii_digit n.part.now)) }
 {
     match text {
@@ -143,7 +143,8 @@ fn with_digits(number: u64, digits: &[u8]) -> Option<u64>
 #[tactic(auto, using(crate::proofs::Values::number_after_append, crate::proofs::Values::stays_far))]
 fn joined(first: &[u8], second: &[u8], zeros: u32) -> Option<u64>
     requires { zeros ≤ 3 }
-    ensures { result ≡ in_u64 (number_from_digits_after 10 0 (map digit first.now ++ map digit second.now) * 10 ^ zeros) }
+    ensures { result ≡ in_u64
+        (number_from_digits_after 10 0 (map digit first.now ++ map digit second.now) * 10 ^ zeros) }
 {
     let number = with_digits(0, first)?;
     let number = with_digits(number, second)?;
@@ -183,7 +184,7 @@ fn in_range(minus: bool, number: u64) -> Result<i64, NumberFault>
 fn product_of(numeral: Numeral<'_>, scale: u32) -> Result<i64, NumberFault>
     requires scaled { IsScale scale }
     requires digits { IsTrue (list_all is_ascii_digit numeral.part.now) }
-    ensures { result ≡ product_of scale (record { minus = numeral.entry.minus; whole = numeral.entry.whole.now; part = numeral.entry.part.now }) }
+    ensures { result ≡ product_of scale (as_numeral numeral.entry) }
 {
     let part = numeral.part;
     let places = places_of(scale);
@@ -198,8 +199,9 @@ fn product_of(numeral: Numeral<'_>, scale: u32) -> Result<i64, NumberFault>
     }
 }
 
-/// The number that a word spells, times the scale: digits, with a minus before them or without, and with a point and
-/// digits behind them or without. `5.000` is 5 at scale 1, and `5.5` is 55 at scale 10.
+/// The number that a word spells, times the scale: digits, with a minus before them or without, and
+/// with a point and digits behind them or without. `5.000` is 5 at scale 1, and `5.5` is 55 at
+/// scale 10.
 pub fn number(word: &Word, scale: u32) -> Result<i64, NumberFault>
     requires { IsScale scale }
     ensures { result ≡ number_of scale word.now.text }

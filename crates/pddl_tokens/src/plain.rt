@@ -48,7 +48,8 @@ fn push_plain(out: &mut Vec<u8>, text: &[u8]) -> Result<(), AllocError>
     Ok(())
 }
 
-/// The text with blanks for a byte order mark and for comments, and in lower case: each byte keeps its place.
+/// The text with blanks for a byte order mark and for comments, and in lower case: each byte keeps
+/// its place.
 pub fn plain_of(alloc: Global, text: &[u8]) -> Result<Vec<u8>, AllocError>
     ensures plain { IfOk result (λ v. v.items ≡ plain text.now) }
     ensures len { IfOk result (λ v. vec_len v ≡ length text.now) }

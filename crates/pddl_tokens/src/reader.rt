@@ -21,11 +21,17 @@ fn step(
     c: u8,
 ) -> Result<(), TextFault>
     requires { vec_len word.old ≤ at }
-    ensures read { OnOk result ((rest : List ℕ) → read_so_far tree.new.frames.items tree.new.parts ++ tokens_from (at + 1) word.new.items rest
-        ≡ read_so_far tree.old.frames.items tree.old.parts ++ tokens_from at word.old.items (c ∷ rest)) }
-    ensures goes_on { OnOk result ((bad : Option ℕ) (rest : List ℕ) → fault_from bad (stack_of tree.new.frames.items) (tokens_from (at + 1) word.new.items rest)
-        ≡ fault_from bad (stack_of tree.old.frames.items) (tokens_from at word.old.items (c ∷ rest))) }
-    ensures fault { IfErr result (λ f. IsFaultAt f (stack_of tree.old.frames.items) at word.old.items c) }
+    ensures read { OnOk result ((rest : List ℕ)
+        → read_so_far tree.new.frames.items tree.new.parts
+        ++ tokens_from (at + 1) word.new.items rest
+        ≡ read_so_far tree.old.frames.items tree.old.parts
+        ++ tokens_from at word.old.items (c ∷ rest)) }
+    ensures goes_on { OnOk result ((bad : Option ℕ) (rest : List ℕ)
+        → fault_from bad (stack_of tree.new.frames.items) (tokens_from (at + 1) word.new.items rest)
+        ≡ fault_from bad (stack_of tree.old.frames.items)
+        (tokens_from at word.old.items (c ∷ rest))) }
+    ensures fault { IfErr result
+        (λ f. IsFaultAt f (stack_of tree.old.frames.items) at word.old.items c) }
     ensures short { OnOk result (vec_len word.new ≤ at + 1) }
 {
     if is_letter(c) {
@@ -38,10 +44,12 @@ fn step(
     Ok(())
 }
 
-/// The tree of a text without comments, or its first fault; `bad` is the byte behind it that is no text.
+/// The tree of a text without comments, or its first fault; `bad` is the byte behind it that is no
+/// text.
 fn read_plain(alloc: Global, plain: &[u8], bad: Option<u32>) -> Result<List<Form>, TextFault>
     requires { length plain.now < 2 ^ 31 }
-    ensures found { IfOk result (λ forms. all_spelled (trees_of forms) ≡ tokens_from 0 [] plain.now) }
+    ensures found { IfOk result (λ forms. all_spelled (trees_of forms)
+        ≡ tokens_from 0 [] plain.now) }
     ensures fault { Gives result (fault_from bad [] (tokens_from 0 [] plain.now)) }
 {
     let mut tree = Builder::new(alloc);
@@ -71,8 +79,9 @@ fn valid_part(text: &[u8]) -> (&[u8], Option<u32>)
     }
 }
 
-/// The words and lists that a text spells, or the text's first fault in the order of its bytes; a list that is never
-/// closed comes last, by its innermost open parenthesis. It takes time linear in the text, and no deep stack.
+/// The words and lists that a text spells, or the text's first fault in the order of its bytes; a
+/// list that is never closed comes last, by its innermost open parenthesis. It takes time linear in
+/// the text, and no deep stack.
 #[tactic(auto, using(crate::proofs::Growth::whole, crate::proofs::Letters::spelled_letters))]
 pub fn read_forms(alloc: Global, text: &[u8]) -> Result<Forms, TextFault>
     requires { length text.now < 2 ^ 31 }

@@ -1,13 +1,14 @@
 use Rattle.std.proofs.Common.{◌≡◌, ◌≤◌}
 use Rattle.pddl_tokens.specs.Trees.{trees_of, sizes}
 use Rattle.pddl_parts.specs.First.{first, earlier}
+use Rattle.pddl_parts.specs.Settings.{setting_of}
 use Rattle.pddl_parts.specs.Conditions.{conditions_faults}
 use Rattle.pddl_parts.proofs.conditions.+conditions.Given as goal
 
 abbrev pub invariant-conditions_fault-conditions : goal.invariant-conditions_fault-conditions
 invariant-conditions_fault-conditions l =
     record {
-      judged : earlier l.best (first (conditions_faults l.scope l.variables l.scale (trees_of l.rest))) ≡ first (conditions_faults l.scope l.variables l.scale (trees_of l.forms));
+      judged : earlier l.best (first (conditions_faults (setting_of l.context) (trees_of l.rest))) ≡ first (conditions_faults (setting_of l.context) (trees_of l.forms));
       smaller : sizes (trees_of l.rest) ≤ sizes (trees_of l.forms);
     }
 

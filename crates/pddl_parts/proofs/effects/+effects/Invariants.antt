@@ -1,13 +1,14 @@
 use Rattle.std.proofs.Common.{◌≡◌, ◌≤◌}
 use Rattle.pddl_tokens.specs.Trees.{trees_of, sizes}
 use Rattle.pddl_parts.specs.First.{first, earlier}
+use Rattle.pddl_parts.specs.Settings.{setting_of}
 use Rattle.pddl_parts.specs.Effects.{effects_faults}
 use Rattle.pddl_parts.proofs.effects.+effects.Given as goal
 
 abbrev pub invariant-effects_fault-effects : goal.invariant-effects_fault-effects
 invariant-effects_fault-effects l =
     record {
-      judged : earlier l.best (first (effects_faults l.scope l.variables l.scale (trees_of l.rest))) ≡ first (effects_faults l.scope l.variables l.scale (trees_of l.forms));
+      judged : earlier l.best (first (effects_faults (setting_of l.context) (trees_of l.rest))) ≡ first (effects_faults (setting_of l.context) (trees_of l.forms));
       smaller : sizes (trees_of l.rest) ≤ sizes (trees_of l.forms);
     }
 

@@ -1,13 +1,14 @@
 use Rattle.std.proofs.Common.{◌≡◌, ◌≤◌}
 use Rattle.pddl_tokens.specs.Trees.{trees_of, sizes}
 use Rattle.pddl_parts.specs.First.{first, earlier}
+use Rattle.pddl_parts.specs.Settings.{setting_of}
 use Rattle.pddl_parts.specs.Expressions.{expressions_faults}
 use Rattle.pddl_parts.proofs.expressions.+expressions.Given as goal
 
 abbrev pub invariant-expressions_fault-expressions : goal.invariant-expressions_fault-expressions
 invariant-expressions_fault-expressions l =
     record {
-      judged : earlier l.best (first (expressions_faults l.duration l.scope l.variables l.scale (trees_of l.rest))) ≡ first (expressions_faults l.duration l.scope l.variables l.scale (trees_of l.forms));
+      judged : earlier l.best (first (expressions_faults (setting_of l.context) (trees_of l.rest))) ≡ first (expressions_faults (setting_of l.context) (trees_of l.forms));
       smaller : sizes (trees_of l.rest) ≤ sizes (trees_of l.forms);
     }
 
