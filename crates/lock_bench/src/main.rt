@@ -1,6 +1,7 @@
-//! Measures the lock with seats beside std's `Mutex`, on the same work: each turn reads some numbers of a list and adds one.
-//! `lock_bench KIND THREADS TURNS READS`, with KIND `lock` or `mutex`, prints how many numbers were added and the turns per second.
-//! Without arguments two threads add numbers under each lock, and the counts are printed.
+//! Measures the lock with seats beside std's `Mutex`, on the same work: each turn reads some
+//! numbers of a list and adds one. `lock_bench KIND THREADS TURNS READS`, with KIND `lock` or
+//! `mutex`, prints how many numbers were added and the turns per second. Without arguments two
+//! threads add numbers under each lock, and the counts are printed.
 #![tactic(auto)]
 
 ghost use Rattle.std.specs.Prelude.{◌≡◌, ◌≤◌, length};
@@ -108,11 +109,13 @@ fn spread_mutex<R: Threads + Wait + Sync>(
     );
 }
 
-// The numbers at the end: they begin with all that the seat has seen, and those behind the ones at the start are its turns.
+// The numbers at the end: they begin with all that the seat has seen, and those behind the ones at
+// the start are its turns.
 fn finish(lock: Turn<Numbers>, seat: Seat<Numbers>) -> Numbers
     requires { IsSeatOf lock seat × (parts_of seat ≡ all_parts lock) }
     ensures seen { IsPrefix (seen seat) result.items.items }
-    ensures turns { Covers (length (opened lock).items.items) (length result.items.items) (made seat) }
+    ensures turns { Covers (length (opened lock).items.items) (length result.items.items)
+        (made seat) }
 {
     let numbers = lock.close(seat);
     numbers

@@ -87,7 +87,8 @@ fn all_ended(acts: &[Timed], end: u64) -> bool
 /// The first part of the goal that does not hold in a state.
 fn first_unmet_part(problem: &Problem, state: &State) -> Option<u32>
     ensures { MatchOption result (IsTrue (list_all (holds_in (meaning state.now)) problem.now.goal))
-        (λ part. position (λ c. not (holds_in (meaning state.now) c)) problem.now.goal ≡ Some part) }
+        (λ part. position (λ c. not (holds_in (meaning state.now) c)) problem.now.goal
+        ≡ Some part) }
 {
     for (part, cond) in problem.goal.as_slice().iter().enumerate() {
         if !holds(state, cond) {
