@@ -22,4 +22,7 @@ request-parts (Save name bytes) = refl
 
 -- how the logic stores a request
 abbrev pub request_code : Coded Request
-request_code = code_by (List ℕ ⊎ (List ℕ × List ℕ)) (coded⊎ (coded_list coded_ℕ) (coded× (coded_list coded_ℕ) (coded_list coded_ℕ))) parts request request-parts
+request_code =
+    code_by (List ℕ ⊎ (List ℕ × List ℕ))
+    (coded⊎ (coded_list coded_ℕ) (coded× (coded_list coded_ℕ) (coded_list coded_ℕ))) parts request
+    request-parts

@@ -1,11 +1,11 @@
-//! Adapters of the real thing. What the system holds is not told, so no clause speaks of it.
+//! Adapters of the real thing. What the system holds they don't say, so no clause speaks of it.
 ghost use Rattle.std.specs.Prelude.{◌≡◌, ◌*◌, ◌/◌, ◌-◌, ◌^◌, min, [], None};
 ghost use Rattle.std.specs.Duration.{as_nanos};
 
 use crate::clock::Clock;
 use crate::files::{Files, LoadFault, SaveFault};
 use crate::gate::{Gate, Point};
-use crate::requests::Requests;
+use crate::requests::{Begun, Puts, Requests};
 use crate::sink::{SendFault, Sink};
 use std::alloc::Global;
 use std::fs::Files as SystemFiles;
@@ -25,10 +25,12 @@ pub struct DiskFiles<R> {
 impl<R: SystemFiles> DiskFiles<R> {
     /// The files that this runtime reaches.
     pub fn new(rt: R) -> DiskFiles<R>
-        ensures contents { ⟦<DiskFiles<R> as Files>⟧.contents result ≡ None }
-        ensures load_faults { ⟦<DiskFiles<R> as Files>⟧.load_faults result ≡ 0 }
-        ensures save_faults { ⟦<DiskFiles<R> as Files>⟧.save_faults result ≡ 0 }
-        ensures requests { ⟦<DiskFiles<R> as Files>⟧.requests result ≡ [] }
+        ensures { ⟦<DiskFiles<R> as Files>⟧.view result ≡ record {
+          contents = None;
+          load_faults = 0;
+          save_faults = 0;
+          requests = [];
+        } }
     {
         DiskFiles {
             rt,
@@ -40,13 +42,12 @@ impl<R: SystemFiles> DiskFiles<R> {
 }
 
 impl<R: SystemFiles> Files for DiskFiles<R> {
-    ghost contents = { λ _. None };
-
-    ghost load_faults = { λ f. f.load_faults };
-
-    ghost save_faults = { λ f. f.save_faults };
-
-    ghost requests = { λ f. f.requests.made };
+    ghost view = { λ f. record {
+      contents = None;
+      load_faults = f.load_faults;
+      save_faults = f.save_faults;
+      requests = f.requests.made;
+    } };
 
     /// At most one byte more than `most` is read. A file that cannot be read counts a fault.
     fn load(&mut self, alloc: Global, name: &str, most: u64) -> Result<Vec<u8>, LoadFault> {
@@ -91,24 +92,28 @@ fn read_front<R: SystemFiles>(
 pub struct StdSink<R> {
     rt: R,
     faults: u64,
+    puts: Puts,
 }
 
 impl<R: Print> StdSink<R> {
     /// The standard output of this runtime.
     pub fn new(rt: R) -> StdSink<R>
-        ensures held { ⟦<StdSink<R> as Sink>⟧.held result ≡ None }
-        ensures faults { ⟦<StdSink<R> as Sink>⟧.faults result ≡ 0 }
+        ensures { ⟦<StdSink<R> as Sink>⟧.view result
+            ≡ record { held = None; faults = 0; puts = [] } }
     {
-        StdSink { rt, faults: 0 }
+        StdSink {
+            rt,
+            faults: 0,
+            puts: Puts::new(),
+        }
     }
 }
 
 impl<R: Print> Sink for StdSink<R> {
-    ghost held = { λ _. None };
-
-    ghost faults = { λ s. s.faults };
+    ghost view = { λ s. record { held = None; faults = s.faults; puts = s.puts.made } };
 
     fn put(&mut self, bytes: &[u8]) -> Result<(), SendFault> {
+        self.puts.note_put(bytes);
         match write_out(&self.rt, bytes) {
             Ok(()) => Ok(()),
             Err(_) => {
@@ -126,8 +131,8 @@ fn write_out(rt: &impl Print, bytes: &[u8]) -> io::Result<()> {
     out.flush()
 }
 
-/// The time since it was made, in ticks of a second divided by the rate. Where the system refuses the
-/// moment, a reading is the last one.
+/// The time since it was made, in ticks of a second divided by the rate. Where the system refuses
+/// the moment, a reading is the last one.
 #[derive(Drop)]
 pub struct ElapsedClock<R> {
     rt: R,
@@ -135,6 +140,7 @@ pub struct ElapsedClock<R> {
     count: u64,
     last: u64,
     rate: u32,
+    begun: Begun,
 }
 
 impl<R: SystemClock> ElapsedClock<R> {
@@ -144,6 +150,7 @@ impl<R: SystemClock> ElapsedClock<R> {
         ensures count { ⟦<ElapsedClock<R> as Clock>⟧.count result ≡ 0 }
         ensures last { ⟦<ElapsedClock<R> as Clock>⟧.last result ≡ 0 }
         ensures rate { ⟦<ElapsedClock<R> as Clock>⟧.rate result ≡ 1 }
+        ensures begun { ⟦<ElapsedClock<R> as Clock>⟧.begun result ≡ [] }
     {
         let began = Instant::now(&rt).ok();
         ElapsedClock {
@@ -152,6 +159,7 @@ impl<R: SystemClock> ElapsedClock<R> {
             count: 0,
             last: 0,
             rate: 1,
+            begun: Begun::new(),
         }
     }
 }
@@ -165,7 +173,10 @@ impl<R: SystemClock> Clock for ElapsedClock<R> {
 
     ghost given = { λ _. None };
 
+    ghost begun = { λ c. c.begun.made };
+
     fn begin(&mut self, per_unit: u32) {
+        self.begun.note_rates(&[per_unit]);
         self.rate = per_unit;
     }
 

@@ -1,9 +1,9 @@
-ghost use Rattle.std.specs.Prelude.{◌≡◌, ℕ, List, [], ◌∷◌, ◌++◌, Option, Some, IfSome, IsSomeAnd, ◌<◌, ◌≤◌, ◌⊎◌, IfOk, OnOk, OnErr, IsErrOf, IsTrue, if◌then◌else◌, length, vec_len, option_copied, position, find, map, string_bytes};
+ghost use Rattle.std.specs.Prelude.{◌≡◌, [], ◌∷◌, ◌++◌, Some, IfSome, IsSomeAnd, ◌<◌, ◌≤◌, ◌⊎◌, IfOk, OnOk, OnErr, IsErrOf, IsTrue, if◌then◌else◌, length, vec_len, option_copied, position, find, map, string_bytes};
 ghost use Rattle.std.specs.Str.{bytes_eq};
-ghost use Rattle.tp_world.specs.Counts.{Rose, one_more};
-ghost use Rattle.tp_world.specs.Contents.{KeepsOthers, Stores, content_of, file_of, fails_next};
-ghost use Rattle.tp_world.specs.LoadFaults.{load_faults_after};
-ghost use Rattle.tp_world.specs.Requests.{Request, Load, Save};
+ghost use Rattle.tp_world.specs.Counts.{one_more};
+ghost use Rattle.tp_world.specs.Contents.{FilesView, KeepsOthers, Stores, content_of, file_of, fails_next};
+ghost use Rattle.tp_world.specs.Faults.{CountsLoad, CountsSave, load_faults_after};
+ghost use Rattle.tp_world.specs.Requests.{Load, Save};
 
 use crate::requests::Requests;
 use std::alloc::Global;
@@ -28,41 +28,42 @@ pub enum SaveFault {
 
 /// Files by their names.
 pub trait Files {
-    /// The content of each name that has one, where the files tell contents.
-    ghost contents: { Self → Option (List ℕ → Option (List ℕ)) };
+    /// The contents by name, where the files say them, how often a load and a save failed, and what
+    /// they were asked for.
+    ghost view: { Self → FilesView };
 
-    /// How often a load failed, up to the greatest `u64`.
-    ghost load_faults: { Self → ℕ };
-
-    /// How often a save failed, up to the greatest `u64`.
-    ghost save_faults: { Self → ℕ };
-
-    /// The loads and saves that were asked for, in order.
-    ghost requests: { Self → List Request };
-
-    /// The content of a name, of at most `most` bytes. It changes no content.
+    /// The content of a name, of at most `most` bytes. It changes no content. A load that fails
+    /// raises the count of failed loads; every other leaves it.
     fn load(&mut self, alloc: Global, name: &str, most: u64) -> Result<Vec<u8>, LoadFault>
         ensures within { IfOk result (λ text. vec_len text ≤ most) }
-        ensures content { IfOk result (λ text. IfSome (contents self.old) (λ content. content name.now ≡ Some text.items)) }
+        ensures content { IfOk result (λ text. IfSome (view self.old).contents
+            (λ content. content name.now ≡ Some text.items)) }
 
         // With `within` and `content`: exactly where it is too long, unless it failed.
         ensures too_long { IsErrOf result LoadFault.TooLong
-            → IfSome (contents self.old) (λ content. IsSomeAnd (content name.now) (λ bytes. most < length bytes)) }
-        ensures failed { IsErrOf result LoadFault.Failed → Rose (load_faults self.old) (load_faults self.new) }
-        ensures contents { contents self.new ≡ contents self.old }
-        ensures never_falls { load_faults self.old ≤ load_faults self.new }
-        ensures save_faults { save_faults self.new ≡ save_faults self.old }
-        ensures requests { requests self.new ≡ requests self.old ++ Load name.now ∷ [] };
+            → IfSome (view self.old).contents
+            (λ content. IsSomeAnd (content name.now) (λ bytes. most < length bytes)) }
+        ensures contents { (view self.new).contents ≡ (view self.old).contents }
+        ensures load_faults { CountsLoad result (view self.old).load_faults
+            (view self.new).load_faults }
+        ensures save_faults { (view self.new).save_faults ≡ (view self.old).save_faults }
+        ensures requests { (view self.new).requests ≡ (view self.old).requests ++ Load name.now
+            ∷ [] };
 
-    /// Gives a name these bytes as its content. After a failure the name may have any content.
+    /// Gives a name these bytes as its content. A save that fails raises the count of failed saves,
+    /// and the name may then have any content; every other leaves the count.
     fn save(&mut self, alloc: Global, name: &str, bytes: &[u8]) -> Result<(), SaveFault>
-        ensures ok { OnOk result (Stores (contents self.old) (contents self.new) name.now bytes.now) }
-        ensures failed { IsErrOf result SaveFault.Failed → Rose (save_faults self.old) (save_faults self.new) }
-        ensures others { IsErrOf result SaveFault.Failed → KeepsOthers (contents self.old) (contents self.new) name.now }
-        ensures no_memory { IsErrOf result SaveFault.NoMemory → contents self.new ≡ contents self.old }
-        ensures never_falls { save_faults self.old ≤ save_faults self.new }
-        ensures load_faults { load_faults self.new ≡ load_faults self.old }
-        ensures requests { requests self.new ≡ requests self.old ++ Save name.now bytes.now ∷ [] };
+        ensures ok { OnOk result
+            (Stores (view self.old).contents (view self.new).contents name.now bytes.now) }
+        ensures others { IsErrOf result SaveFault.Failed
+            → KeepsOthers (view self.old).contents (view self.new).contents name.now }
+        ensures no_memory { IsErrOf result SaveFault.NoMemory
+            → (view self.new).contents ≡ (view self.old).contents }
+        ensures save_faults { CountsSave result (view self.old).save_faults
+            (view self.new).save_faults }
+        ensures load_faults { (view self.new).load_faults ≡ (view self.old).load_faults }
+        ensures requests { (view self.new).requests
+            ≡ (view self.old).requests ++ Save name.now bytes.now ∷ [] };
 }
 
 /// Files in memory. Some of the loads and saves fail.
@@ -134,17 +135,17 @@ impl MemoryFiles {
 }
 
 impl Files for MemoryFiles {
-    ghost contents = { λ f. Some (content_of f.files) };
-
-    ghost load_faults = { λ f. f.load_faults };
-
-    ghost save_faults = { λ f. f.save_faults };
-
-    ghost requests = { λ f. f.requests };
+    ghost view = { λ f. record {
+      contents = Some (content_of f.files);
+      load_faults = f.load_faults;
+      save_faults = f.save_faults;
+      requests = f.requests;
+    } };
 
     /// Memory may be refused wherever there is a content to give.
     fn load(&mut self, alloc: Global, name: &str, most: u64) -> Result<Vec<u8>, LoadFault>
-        ensures ok { IfOk result (λ text. (content_of self.old.files name.now ≡ Some text.items) × (vec_len text ≤ most)) }
+        ensures ok { IfOk result (λ text. (content_of self.old.files name.now ≡ Some text.items)
+            × (vec_len text ≤ most)) }
         ensures too_long { IsErrOf result LoadFault.TooLong
             → IsSomeAnd (content_of self.old.files name.now) (λ bytes. most < length bytes) }
         ensures fails { IsTrue (fails_next self.old) → result ≡ Err LoadFault.Failed }
@@ -178,14 +179,16 @@ impl Files for MemoryFiles {
 
     /// A save that fails changes no content. Memory may be refused at any other.
     fn save(&mut self, alloc: Global, name: &str, bytes: &[u8]) -> Result<(), SaveFault>
-        ensures ok { OnOk result (Stores (Some (content_of self.old.files)) (Some (content_of self.new.files)) name.now bytes.now) }
+        ensures ok { OnOk result (Stores (Some (content_of self.old.files))
+            (Some (content_of self.new.files)) name.now bytes.now) }
         ensures fails { IsTrue (fails_next self.old) → result ≡ Err SaveFault.Failed }
         ensures failed { IsErrOf result SaveFault.Failed → IsTrue (fails_next self.old) }
         ensures no_change { OnErr result (self.new.files ≡ self.old.files) }
         ensures counted { self.new ≡ record self.old {
           files = self.new.files;
           calls = one_more self.old.calls;
-          save_faults = (if fails_next self.old then one_more self.old.save_faults else self.old.save_faults);
+          save_faults =
+              (if fails_next self.old then one_more self.old.save_faults else self.old.save_faults);
           requests = self.old.requests ++ Save name.now bytes.now ∷ [];
         } }
     {
@@ -212,7 +215,8 @@ fn content_in<'a>(entries: &'a [(String, Vec<u8>)], name: &str) -> Option<&'a [u
 
 /// A name's first entry.
 fn entry_of<'a>(entries: &'a [(String, Vec<u8>)], name: &str) -> Option<&'a (String, Vec<u8>)>
-    ensures { option_copied result ≡ find (λ entry. bytes_eq (string_bytes entry.0) name.now) entries.now }
+    ensures { option_copied result
+        ≡ find (λ entry. bytes_eq (string_bytes entry.0) name.now) entries.now }
 {
     entries.iter().find(|entry| entry.0.as_str() == name)
 }
@@ -231,7 +235,8 @@ fn store(
     name: &str,
     bytes: &[u8],
 ) -> Result<(), NoMemory>
-    ensures ok { OnOk result (Stores (Some (content_of (map file_of entries.old.items))) (Some (content_of (map file_of entries.new.items))) name.now bytes.now) }
+    ensures ok { OnOk result (Stores (Some (content_of (map file_of entries.old.items)))
+        (Some (content_of (map file_of entries.new.items))) name.now bytes.now) }
     ensures err { OnErr result (entries.new.items ≡ entries.old.items) }
 {
     let Ok(content) = Vec::from_slice(alloc, bytes) else {
@@ -253,7 +258,8 @@ fn append(
     name: &str,
     content: Vec<u8>,
 ) -> Result<(), NoMemory>
-    ensures ok { OnOk result (map file_of entries.new.items ≡ map file_of entries.old.items ++ (name.now, content.items) ∷ []) }
+    ensures ok { OnOk result (map file_of entries.new.items ≡ map file_of entries.old.items
+        ++ (name.now, content.items) ∷ []) }
     ensures err { OnErr result (entries.new.items ≡ entries.old.items) }
 {
     let Ok(name) = String::from_str(alloc, name) else {

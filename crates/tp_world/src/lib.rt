@@ -15,4 +15,5 @@ pub use adapters::{DiskFiles, ElapsedClock, PauseGate, StdSink};
 pub use clock::{Clock, ListClock};
 pub use files::{Files, LoadFault, MemoryFiles, SaveFault};
 pub use gate::{Gate, OpenGate, Point};
+pub use requests::{Begun, Puts, Requests};
 pub use sink::{MemorySink, SendFault, Sink};

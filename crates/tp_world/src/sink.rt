@@ -1,8 +1,10 @@
-ghost use Rattle.std.specs.Prelude.{◌≡◌, ℕ, List, [], ◌++◌, Option, Some, None, ◌≤◌, OnOk, IsErrOf, take};
+ghost use Rattle.std.specs.Prelude.{◌≡◌, ℕ, List, [], ◌∷◌, ◌++◌, Some, None, OnOk, IsErrOf, take};
 ghost use Rattle.std.specs.Io.KnownBytes.{Appends, Keeps};
-ghost use Rattle.tp_world.specs.Counts.{Rose, one_more};
-ghost use Rattle.tp_world.specs.Sinks.{AppendsFront, bytes_of_put};
+ghost use Rattle.tp_world.specs.Counts.{one_more};
+ghost use Rattle.tp_world.specs.Faults.{CountsPut};
+ghost use Rattle.tp_world.specs.Sinks.{SinkView, AppendsFront, bytes_of_put};
 
+use crate::requests::Puts;
 use std::alloc::Global;
 use std::marker::Model;
 
@@ -16,19 +18,18 @@ pub enum SendFault {
 
 /// What takes bytes, one put after another.
 pub trait Sink {
-    /// The bytes that it holds, where it tells them.
-    ghost held: { Self → Option (List ℕ) };
+    /// What it holds, where it says so, how often a put failed, and the puts that it was asked for.
+    ghost view: { Self → SinkView };
 
-    /// How often a put failed, up to the greatest `u64`.
-    ghost faults: { Self → ℕ };
-
-    /// Appends bytes.
+    /// Appends bytes. A put that fails raises the count of faults; every other leaves it.
     fn put(&mut self, bytes: &[u8]) -> Result<(), SendFault>
-        ensures ok { OnOk result (Appends (held self.old) (held self.new) bytes.now) }
-        ensures failed { IsErrOf result SendFault.Failed → Rose (faults self.old) (faults self.new) }
-        ensures front { IsErrOf result SendFault.Failed → AppendsFront (held self.old) (held self.new) bytes.now }
-        ensures no_memory { IsErrOf result SendFault.NoMemory → Keeps (held self.old) (held self.new) }
-        ensures never_falls { faults self.old ≤ faults self.new };
+        ensures ok { OnOk result (Appends (view self.old).held (view self.new).held bytes.now) }
+        ensures front { IsErrOf result SendFault.Failed
+            → AppendsFront (view self.old).held (view self.new).held bytes.now }
+        ensures no_memory { IsErrOf result SendFault.NoMemory
+            → Keeps (view self.old).held (view self.new).held }
+        ensures faults { CountsPut result (view self.old).faults (view self.new).faults }
+        ensures puts { (view self.new).puts ≡ (view self.old).puts ++ bytes.now ∷ [] };
 }
 
 /// A sink in memory. Some of its puts fail, each after a set number of bytes.
@@ -36,8 +37,9 @@ pub trait Sink {
 pub struct MemorySink {
     bytes: Vec<u8>,
     failing: Vec<(u64, u64)>,
-    puts: u64,
+    calls: u64,
     faults: u64,
+    puts: Puts,
 }
 
 impl Model for MemorySink {
@@ -45,7 +47,13 @@ impl Model for MemorySink {
 
     ghost Value = { SinkState };
 
-    ghost view = { λ s. record { bytes = s.bytes.items; failing = s.failing.items; puts = s.puts; faults = s.faults } };
+    ghost view = { λ s. record {
+      bytes = s.bytes.items;
+      failing = s.failing.items;
+      calls = s.calls;
+      faults = s.faults;
+      puts = s.puts.made;
+    } };
 }
 
 impl MemorySink {
@@ -53,13 +61,20 @@ impl MemorySink {
     /// from 0, and the number of its bytes that still go out, or all where it has fewer. Where
     /// several pairs have one number, the first counts.
     pub fn new(alloc: Global, failing: Vec<(u64, u64)>) -> MemorySink
-        ensures { result ≡ record { bytes = []; failing = failing.items; puts = 0; faults = 0 } }
+        ensures { result ≡ record {
+          bytes = [];
+          failing = failing.items;
+          calls = 0;
+          faults = 0;
+          puts = [];
+        } }
     {
         MemorySink {
             bytes: Vec::new(alloc),
             failing,
-            puts: 0,
+            calls: 0,
             faults: 0,
+            puts: Puts::new(),
         }
     }
 
@@ -72,29 +87,32 @@ impl MemorySink {
 }
 
 impl Sink for MemorySink {
-    ghost held = { λ s. Some s.bytes };
-
-    ghost faults = { λ s. s.faults };
+    ghost view = { λ s. record { held = Some s.bytes; faults = s.faults; puts = s.puts } };
 
     /// Memory may be refused at any put, which then appends nothing and still has its number.
     fn put(&mut self, bytes: &[u8]) -> Result<(), SendFault>
-        ensures ok { OnOk result (bytes_of_put self.old.failing self.old.puts ≡ None) }
+        ensures ok { OnOk result (bytes_of_put self.old.failing self.old.calls ≡ None) }
         ensures all { OnOk result (self.new ≡ record self.old {
           bytes = self.old.bytes ++ bytes.now;
-          puts = one_more self.old.puts;
+          calls = one_more self.old.calls;
+          puts = self.old.puts ++ bytes.now ∷ [];
         }) }
         ensures front { IsErrOf result SendFault.Failed → (n : ℕ)
-            × (bytes_of_put self.old.failing self.old.puts ≡ Some n)
+            × (bytes_of_put self.old.failing self.old.calls ≡ Some n)
             × (self.new ≡ record self.old {
               bytes = self.old.bytes ++ take n bytes.now;
-              puts = one_more self.old.puts;
+              calls = one_more self.old.calls;
               faults = one_more self.old.faults;
+              puts = self.old.puts ++ bytes.now ∷ [];
             }) }
-        ensures no_memory { IsErrOf result SendFault.NoMemory
-            → self.new ≡ record self.old { puts = one_more self.old.puts } }
+        ensures no_memory { IsErrOf result SendFault.NoMemory → self.new ≡ record self.old {
+          calls = one_more self.old.calls;
+          puts = self.old.puts ++ bytes.now ∷ [];
+        } }
     {
-        let number = self.puts;
-        self.puts = self.puts.saturating_add(1);
+        let number = self.calls;
+        self.calls = self.calls.saturating_add(1);
+        self.puts.note_put(bytes);
         match bytes_of(&self.failing, number) {
             None => match self.bytes.extend_from_slice(bytes) {
                 Ok(()) => Ok(()),

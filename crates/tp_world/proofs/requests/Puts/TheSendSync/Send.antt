@@ -1,0 +1,6 @@
+-- What was asked for owns nothing, so it may go to any thread.
+use denote.Param.Send.{IsSend, owning_send, sendable}
+use Rattle.tp_world.specs.contracts.requests.Puts.{the_row, the_type}
+
+pub send : IsSend the_row
+send = owning_send the_type (search sendable, tt) (λ d. tt) (λ k x w. tt)
