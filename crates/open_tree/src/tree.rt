@@ -44,7 +44,7 @@ impl<'p, C: Clock> Model for Tree<'p, C> {
     ghost use Rattle.open_tree.specs.Views.{TreeView};
     ghost use Rattle.open_tree.specs.Keeps.{Keeps};
     ghost use Rattle.open_tree.specs.Stands.{Stands};
-    ghost use Rattle.std.specs.Prelude.{vec_len, vec_capacity};
+    ghost use Rattle.std.specs.Prelude.{◌≡◌, vec_len, vec_capacity};
     ghost use Rattle.tp_spec.specs.contracts.expr.Expr as expr;
     ghost use Rattle.std.specs.Coded.{codes};
 
@@ -54,7 +54,7 @@ impl<'p, C: Clock> Model for Tree<'p, C> {
 
     ghost view = { λ t. record { problem = t.problem.now; limits = t.limits; clock = t.clock; opened = t.opened.value; history = t.history.items } };
 
-    ghost invariant = { λ t. Keeps (vec_len t.history) (vec_capacity t.history) (C.rate t.clock) t.problem.now.scale (C.count t.opened.value) (C.count t.clock) (C.last t.opened.value) (C.last t.clock) (C.given t.opened.value) (C.given t.clock) t.history.items t.over t.spare × Stands t.problem.now t.limits t.actions t.frontier t.history.items };
+    ghost invariant = { λ t. Keeps (vec_len t.history) (vec_capacity t.history) (C.rate t.clock) t.problem.now.scale (C.count t.opened.value) (C.count t.clock) (C.last t.opened.value) (C.last t.clock) (C.given t.opened.value) (C.given t.clock) t.history.items t.over t.spare × Stands t.problem.now t.limits t.actions t.frontier t.history.items × (C.begun t.clock ≡ C.begun t.opened.value) };
 }
 
 /// What a merge is going to do, with all the memory that it takes.
@@ -240,6 +240,8 @@ impl<'p, C: Clock> Tree<'p, C> {
         ensures whole { IsWholeRun self.entry.problem self.entry.limits result.0.items }
         ensures clock { result.1 ≡ self.entry.clock }
         ensures rate { C.rate result.1 ≡ self.entry.problem.scale }
+        ensures begun { C.begun result.1 ≡ C.begun self.entry.opened }
+        ensures given { C.given result.1 ≡ C.given self.entry.opened }
         ensures clocked { IsTold (C.count self.entry.opened) (C.count self.entry.clock) (C.last self.entry.opened) (C.last self.entry.clock) (C.given self.entry.opened) self.entry.history }
     {
         let Tree {

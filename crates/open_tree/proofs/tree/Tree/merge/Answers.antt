@@ -21,6 +21,7 @@ invariant_of-self g c = (
       c.prepare-prepared.ensures.items c.push_reserved.ensures.items,
   stands-halt _ _ _ _ _ c.self.invariant.1 (none_stands c.self.invariant.0 c.if-self.false) _ _ Memory c.prepare-prepared.ensures.nodes c.prepare-prepared.ensures.made
       (c.push_reserved.ensures.items ∙ ap (λ es. es ++ Halt Memory ∷ []) c.prepare-prepared.ensures.items),
+  c.read-reading.ensures.begun ∙ c.self.invariant.2,
 )
 
 pub invariant_of-self-2 : goal.invariant_of-self-2
@@ -34,6 +35,7 @@ invariant_of-self-2 g c =
       (merges _ _ _ _ _ c.self.invariant.1 none c.args.actor c.read-reading.result c.args.sprouts known _ _ _ c.move_of-deed.result c.in-Ok.step
           c.prepare-prepared.ensures.nodes c.prepare-prepared.ensures.made c.in-Ok.ensures.step c.move_of-deed.ensures.does
           (c.write_turn.ensures.items ∙ ap (λ es. es ++ Tick c.args.actor c.read-reading.result ∷ (event_list c.move_of-deed.result.deed ++ event_list c.move_of-deed.result.end)) c.prepare-prepared.ensures.items)).stands,
+      c.read-reading.ensures.begun ∙ c.self.invariant.2,
     )
 
 pub returns-clause-merged : goal.returns-clause-merged

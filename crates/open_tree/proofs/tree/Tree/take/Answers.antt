@@ -13,6 +13,7 @@ pub invariant_of-self : goal.invariant_of-self
 invariant_of-self g c = (
   keeps_halt c.if-self.false c.self.invariant.0 c.read-reading.ensures.rate c.read-reading.ensures.count c.read-reading.ensures.given c.choose.ensures.items c.push_reserved.ensures.items,
   stands-halt _ _ _ _ _ c.self.invariant.1 (none_stands c.self.invariant.0 c.if-self.false) _ _ Memory refl refl (c.push_reserved.ensures.items ∙ ap (λ es. es ++ Halt Memory ∷ []) c.choose.ensures.items),
+  c.read-reading.ensures.begun ∙ c.self.invariant.2,
 )
 
 pub invariant_of-self-in-None : goal.invariant_of-self-in-None
@@ -21,6 +22,7 @@ invariant_of-self-in-None g c = (
       c.choose.ensures.items c.write_turn.ensures.items c.write_turn.ensures.room c.if-self.false,
   stands-tick _ _ _ _ _ c.self.invariant.1 (none_stands c.self.invariant.0 c.if-self.false) c.args.actor c.read-reading.result _ _ refl refl
       (c.write_turn.ensures.items ∙ ap (λ es. es ++ Tick c.args.actor c.read-reading.result ∷ []) c.choose.ensures.items),
+  c.read-reading.ensures.begun ∙ c.self.invariant.2,
 )
 
 pub invariant_of-self-in-Some : goal.invariant_of-self-in-Some
@@ -31,6 +33,7 @@ invariant_of-self-in-Some g c =
       stands-take _ _ _ _ _ c.self.invariant.1 (none_stands c.self.invariant.0 c.if-self.false) c.args.actor c.read-reading.result c.in-Some.id c.in-Some.node least _ _
           (c.take_least.ensures.nodes (open_node c.in-Some.id c.in-Some.node) least) c.take_least.ensures.made
           (c.write_turn-in-Some.ensures.items ∙ ap (λ es. es ++ Tick c.args.actor c.read-reading.result ∷ Take c.args.actor c.in-Some.id ∷ []) c.choose.ensures.items),
+      c.read-reading.ensures.begun ∙ c.self.invariant.2,
     )
 
 pub returns-in-None-clause-taken : goal.returns-in-None-clause-taken
