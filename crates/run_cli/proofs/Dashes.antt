@@ -3,7 +3,7 @@ use Rattle.std.proofs.Common.{◌≡◌, ◌≢◌, ℕ, nat_eq, true, false, Li
 use Rattle.std.specs.Prelude.{MatchOption}
 use Rattle.std.specs.Option.{option_map}
 use Rattle.std.proofs.lemmas.Bool.Decides.{nat_tests}
-use Rattle.run_cli.specs.Parts.{without_dash}
+use Rattle.run_cli.specs.Arguments.{without_dash}
 
 no_dash : (b : ℕ) (rest : List ℕ) → ((more : List ℕ) → b ∷ rest ≢ 45 ∷ more) → b ≢ 45
 no_dash b rest none e = none rest (ap (λ x. x ∷ rest) e)

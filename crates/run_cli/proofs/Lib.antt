@@ -1,13 +1,11 @@
 pub mod OneWorker
 pub mod OneJob
 pub mod Solved
-pub mod Stops
+pub mod FirstLoads
+pub mod Stopping
 pub mod Outcomes
 pub mod LiveMarks
 pub mod Bounded
-pub mod Answering
 pub mod Numerals
 pub mod Dashes
 pub mod FirstFaults
-pub mod Plans
-pub mod Asking

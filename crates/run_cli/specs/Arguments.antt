@@ -1,13 +1,14 @@
--- What the words behind the command say, one after the other: files, options with their values, and what is neither.
+-- What the words behind the command say, one after the other: files, options with their values, and
+-- what is neither.
 use Rattle.std.specs.Prelude.{ℕ, ◌+◌, ◌==◌, Bool, true, false, ◌&&◌, nat_eq, if◌then◌else◌, List, [], ◌∷◌, ◌++◌, length, bytes_eq, Option, Some, None}
 use Rattle.std.specs.List.{before_first, after_first, position_or_len}
 use Rattle.run_cli.specs.declared.options.Command.{Command}
 use Rattle.run_cli.specs.declared.options.Setting.{Setting}
-use Rattle.run_cli.specs.declared.parts.Part.{Part as Kept}
-use Rattle.run_cli.specs.declared.parts.Part.TheVariants as kept
-use Rattle.run_cli.specs.declared.parts.Sort.{Sort as KeptSort}
-use Rattle.run_cli.specs.declared.parts.Sort.TheVariants as sorts
-use Rattle.run_cli.specs.declared.parts.Awaited.{Awaited}
+use Rattle.run_cli.specs.declared.arguments.Argument.{Argument as Held}
+use Rattle.run_cli.specs.declared.arguments.Argument.TheVariants as held
+use Rattle.run_cli.specs.declared.arguments.Sort.{Sort as HeldSort}
+use Rattle.run_cli.specs.declared.arguments.Sort.TheVariants as sorts
+use Rattle.run_cli.specs.declared.arguments.Awaited.{Awaited}
 use Rattle.run_cli.specs.Options.{options_of, option_named}
 
 -- whether a word begins with `-`
@@ -16,14 +17,14 @@ begins_with_dash [] = false
 begins_with_dash (b ∷ rest) = b == 45
 
 -- a place is the index of a word
-pub data Part : Type 0 where
-  File : (name : List ℕ) → Part
+pub data Argument : Type 0 where
+  File : (name : List ℕ) → Argument
   -- an option and its value, which stand in the words of these places
-  Given : (at : ℕ) → (setting : Setting) → (value_at : ℕ) → (value : List ℕ) → Part
+  Given : (at : ℕ) → (setting : Setting) → (value_at : ℕ) → (value : List ℕ) → Argument
   -- an option as the last word
-  Bare : (at : ℕ) → (setting : Setting) → Part
+  Bare : (at : ℕ) → (setting : Setting) → Argument
   -- a word with a dash that is no option of the command
-  Strange : (at : ℕ) → Part
+  Strange : (at : ℕ) → Argument
 
 -- what a word is by itself
 pub data Sort : Type 0 where
@@ -71,16 +72,17 @@ sort_from table word None = if begins_with_dash word then Unknown else Plain
 abbrev pub sort_of : List Setting → List ℕ → Sort
 sort_of table word = sort_from table word (undashed word)
 
-abbrev pub part_of : ℕ → List ℕ → Sort → List Part
-part_of at word (Names s) = []
-part_of at word (Assigns s value) = Given at s at value ∷ []
-part_of at word Unknown = Strange at ∷ []
-part_of at word Plain = File word ∷ []
+abbrev pub argument_of : ℕ → List ℕ → Sort → List Argument
+argument_of at word (Names s) = []
+argument_of at word (Assigns s value) = Given at s at value ∷ []
+argument_of at word Unknown = Strange at ∷ []
+argument_of at word Plain = File word ∷ []
 
--- what a word says at its place: the value of the option before it, whatever the word is, or what it is by itself
-abbrev pub part_at : List Setting → ℕ → Option Awaited → List ℕ → List Part
-part_at table at (Some option) word = Given option.at option.setting at word ∷ []
-part_at table at None word = part_of at word (sort_of table word)
+-- what a word says at its place: the value of the option before it, whatever the word is, or what
+-- it is by itself
+abbrev pub argument_at : List Setting → ℕ → Option Awaited → List ℕ → List Argument
+argument_at table at (Some option) word = Given option.at option.setting at word ∷ []
+argument_at table at None word = argument_of at word (sort_of table word)
 
 abbrev pub names_at : ℕ → Sort → Option Awaited
 names_at at (Names s) = Some (record { at = at; setting = s })
@@ -93,28 +95,30 @@ abbrev pub awaited_at : List Setting → ℕ → Option Awaited → List ℕ →
 awaited_at table at (Some option) word = None
 awaited_at table at None word = names_at at (sort_of table word)
 
-abbrev pub last_part : Option Awaited → List Part
-last_part (Some option) = Bare option.at option.setting ∷ []
-last_part None = []
+abbrev pub last_argument : Option Awaited → List Argument
+last_argument (Some option) = Bare option.at option.setting ∷ []
+last_argument None = []
 
--- the parts of the words from a place on
-abbrev pub parts_from : List Setting → ℕ → Option Awaited → List (List ℕ) → List Part
-parts_from table at awaited [] = last_part awaited
-parts_from table at awaited (word ∷ rest) = part_at table at awaited word ++ parts_from table (at + 1) (awaited_at table at awaited word) rest
+-- the arguments of the words from a place on
+abbrev pub arguments_from : List Setting → ℕ → Option Awaited → List (List ℕ) → List Argument
+arguments_from table at awaited [] = last_argument awaited
+arguments_from table at awaited (word ∷ rest) =
+    argument_at table at awaited word
+    ++ arguments_from table (at + 1) (awaited_at table at awaited word) rest
 
--- the parts of the words behind the command
-abbrev pub parts_of : List Setting → List (List ℕ) → List Part
-parts_of table words = parts_from table 1 None words
+-- the arguments of the words behind the command
+abbrev pub arguments_of : List Setting → List (List ℕ) → List Argument
+arguments_of table words = arguments_from table 1 None words
 
--- a part as the code keeps it
-abbrev pub seen : Kept → Part
-seen (kept.File name) = File name.now
-seen (kept.Given at s value_at value) = Given at s value_at value.now
-seen (kept.Bare at s) = Bare at s
-seen (kept.Strange at) = Strange at
+-- an argument as the code keeps it
+abbrev pub view_of : Held → Argument
+view_of (held.File name) = File name.now
+view_of (held.Given at s value_at value) = Given at s value_at value.now
+view_of (held.Bare at s) = Bare at s
+view_of (held.Strange at) = Strange at
 
-abbrev pub seen_sort : KeptSort → Sort
-seen_sort (sorts.Names s) = Names s
-seen_sort (sorts.Assigns s value) = Assigns s value.now
-seen_sort sorts.Unknown = Unknown
-seen_sort sorts.Plain = Plain
+abbrev pub sort_view : HeldSort → Sort
+sort_view (sorts.Names s) = Names s
+sort_view (sorts.Assigns s value) = Assigns s value.now
+sort_view sorts.Unknown = Unknown
+sort_view sorts.Plain = Plain

@@ -1,10 +1,11 @@
-pub mod Commands
+pub mod Arguments
 pub mod OneWorker
 pub mod Options
 pub mod Orders
 pub mod Outcomes
-pub mod Parts
 pub mod Plainness
+pub mod Printing
+pub mod Runs
 pub mod Solving
 pub mod Sprouting
 pub mod Statuses

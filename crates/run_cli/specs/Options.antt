@@ -25,11 +25,6 @@ abbrev pub options_of : Command → List Setting
 options_of Solve = Actions ∷ Horizon ∷ Nodes ∷ []
 options_of Validate = PlanFile ∷ Actions ∷ Horizon ∷ []
 
--- those that must be given
-abbrev pub needed_of : Command → List Setting
-needed_of Solve = []
-needed_of Validate = PlanFile ∷ []
-
 -- the option of this name among some
 abbrev pub option_named : List Setting → List ℕ → Option Setting
 option_named [] name = None

@@ -3,74 +3,73 @@ use Rattle.std.specs.Prelude.{◌≡◌, ℕ, ◌+◌, ◌^◌, Bool, IsTrue, tr
 use Rattle.std.specs.List.{list_any}
 use Rattle.tp_spec.specs.declared.plan.Limits.{Limits}
 use Rattle.run_cli.specs.declared.options.Command.{Command}
-use Rattle.run_cli.specs.declared.options.Command.TheVariants.{Solve, Validate}
+use Rattle.run_cli.specs.declared.options.Command.TheVariants as commands
 use Rattle.run_cli.specs.declared.options.Setting.{Setting}
 use Rattle.run_cli.specs.declared.options.Setting.TheVariants.{Actions, Horizon, Nodes, PlanFile}
 use Rattle.run_cli.specs.declared.words.Order.{Order}
+use Rattle.run_cli.specs.declared.words.Order.TheVariants.{Solve, Validate}
 use Rattle.run_cli.specs.declared.words.WordFault.{WordFault}
 use Rattle.run_cli.specs.declared.words.WordFault.TheVariants.{NoCommand, UnknownCommand, UnknownOption, Twice, NoValue, BadNumber, FileCount, ScaleOfGround, Missing, NoMemory}
-use Rattle.run_cli.specs.Options.{command_named, name_of, options_of, needed_of, number_in, range_of}
-use Rattle.run_cli.specs.Parts.{Part, File, Given, Bare, Strange, parts_of}
+use Rattle.run_cli.specs.Options.{command_named, name_of, options_of, number_in, range_of}
+use Rattle.run_cli.specs.Arguments.{Argument, File, Given, Bare, Strange, arguments_of}
 
--- whether a part gives an option of this option's name
-abbrev pub gives : Setting → Part → Bool
+-- whether an argument gives an option of this option's name
+abbrev pub gives : Setting → Argument → Bool
 gives s (File name) = false
 gives s (Given at t value_at value) = bytes_eq (name_of t) (name_of s)
 gives s (Bare at t) = false
 gives s (Strange at) = false
 
--- whether some part gives an option
-abbrev pub is_given : List Part → Setting → Bool
-is_given parts s = list_any (gives s) parts
+-- whether some argument gives an option
+abbrev pub is_given : List Argument → Setting → Bool
+is_given arguments s = list_any (gives s) arguments
 
-abbrev pub twice_faults : List Part → ℕ → Setting → List WordFault
+abbrev pub twice_faults : List Argument → ℕ → Setting → List WordFault
 twice_faults before at s = if is_given before s then Twice at ∷ [] else []
 
 abbrev pub range_faults : ℕ → Option (ℕ × ℕ) → List ℕ → List WordFault
 range_faults at None value = []
-range_faults at (Some (low, high)) value = if is_some (number_in low high value) then [] else BadNumber at ∷ []
+range_faults at (Some (low, high)) value =
+    if is_some (number_in low high value) then [] else BadNumber at ∷ []
 
--- the faults of a part behind other parts: at one word in this order
-abbrev pub part_faults : List Part → Part → List WordFault
-part_faults before (File name) = []
-part_faults before (Given at s value_at value) = twice_faults before at s ++ range_faults value_at (range_of s) value
-part_faults before (Bare at s) = twice_faults before at s ++ NoValue at ∷ []
-part_faults before (Strange at) = UnknownOption at ∷ []
+-- the faults of an argument behind other arguments: at one word in this order
+abbrev pub argument_faults : List Argument → Argument → List WordFault
+argument_faults before (File name) = []
+argument_faults before (Given at s value_at value) =
+    twice_faults before at s ++ range_faults value_at (range_of s) value
+argument_faults before (Bare at s) = twice_faults before at s ++ NoValue at ∷ []
+argument_faults before (Strange at) = UnknownOption at ∷ []
 
--- the faults of parts behind other parts, word by word
-abbrev pub faults_from : List Part → List Part → List WordFault
+-- the faults of arguments behind other arguments, word by word
+abbrev pub faults_from : List Argument → List Argument → List WordFault
 faults_from before [] = []
-faults_from before (part ∷ rest) = part_faults before part ++ faults_from (before ++ part ∷ []) rest
+faults_from before (argument ∷ rest) =
+    argument_faults before argument ++ faults_from (before ++ argument ∷ []) rest
 
-abbrev pub file_of : Part → List (List ℕ)
+abbrev pub file_of : Argument → List (List ℕ)
 file_of (File name) = name ∷ []
 file_of (Given at s value_at value) = []
 file_of (Bare at s) = []
 file_of (Strange at) = []
 
 -- the names of the files
-abbrev pub files_of : List Part → List (List ℕ)
+abbrev pub files_of : List Argument → List (List ℕ)
 files_of [] = []
-files_of (part ∷ rest) = file_of part ++ files_of rest
+files_of (argument ∷ rest) = file_of argument ++ files_of rest
 
--- each command takes one file
-abbrev pub count_faults : ℕ → List Part → List WordFault
-count_faults count parts = if nat_eq (length (files_of parts)) 1 then [] else FileCount count ∷ []
+-- the first of some names
+abbrev pub first_name : List (List ℕ) → Option (List ℕ)
+first_name [] = None
+first_name (name ∷ rest) = Some name
 
--- whether an option is missing that the command needs
-abbrev pub is_short : Command → List Part → Bool
-is_short command parts = list_any (λ s. not (is_given parts s)) (needed_of command)
+-- the name of the file, where there is one file
+abbrev pub only_file : List (List ℕ) → Option (List ℕ)
+only_file files = if nat_eq (length files) 1 then first_name files else None
 
-abbrev pub missing_faults : Command → ℕ → List Part → List WordFault
-missing_faults command count parts = if is_short command parts then Missing count ∷ [] else []
-
--- all faults of a command's words, the first one first: those of single words, then those of the whole
-abbrev pub faults_of : Command → ℕ → List Part → List WordFault
-faults_of command count parts = faults_from [] parts ++ count_faults count parts ++ missing_faults command count parts
-
-abbrev pub value_in : Setting → Part → Option (List ℕ)
+abbrev pub value_in : Setting → Argument → Option (List ℕ)
 value_in s (File name) = None
-value_in s (Given at t value_at value) = if bytes_eq (name_of t) (name_of s) then Some value else None
+value_in s (Given at t value_at value) =
+    if bytes_eq (name_of t) (name_of s) then Some value else None
 value_in s (Bare at t) = None
 value_in s (Strange at) = None
 
@@ -79,51 +78,57 @@ or_else (Some value) other = Some value
 or_else None other = other
 
 -- the value of an option
-abbrev pub value_of : List Part → Setting → Option (List ℕ)
+abbrev pub value_of : List Argument → Setting → Option (List ℕ)
 value_of [] s = None
-value_of (part ∷ rest) s = or_else (value_in s part) (value_of rest s)
+value_of (argument ∷ rest) s = or_else (value_in s argument) (value_of rest s)
 
 abbrev pub number_or : ℕ → ℕ → ℕ → Option (List ℕ) → ℕ
 number_or low high default None = default
 number_or low high default (Some value) = unwrap_or (number_in low high value) default
 
--- the limits that options give, with 64 acts, 2^40 ticks, no lead and 50,000 ids where they give none
-abbrev pub limits_of : List Part → Limits
-limits_of parts = record {
-  actions = number_or 1 64 64 (value_of parts Actions);
-  horizon = number_or 1 (2 ^ 40) (2 ^ 40) (value_of parts Horizon);
+-- the limits that options give, with 64 acts, 2^40 ticks, no lead and 50,000 ids where they give
+-- none
+abbrev pub limits_of : List Argument → Limits
+limits_of arguments = record {
+  actions = number_or 1 64 64 (value_of arguments Actions);
+  horizon = number_or 1 (2 ^ 40) (2 ^ 40) (value_of arguments Horizon);
   lead = 0;
-  nodes = number_or 1 200000 50000 (value_of parts Nodes);
+  nodes = number_or 1 200000 50000 (value_of arguments Nodes);
 }
 
-abbrev pub told_of : Command → List Part → Order
-told_of command parts = record {
-  command = command;
-  files = files_of parts;
-  limits = limits_of parts;
-  plan = value_of parts PlanFile;
-}
+-- The order of a command with its one file, with the plan file that `validate` needs, and with its
+-- limits; else what is wrong with all `count` words.
+abbrev pub order_from : Command → ℕ → Option (List ℕ) → Option (List ℕ) → Limits
+    → Result Order WordFault
+order_from command count None plan limits = Err (FileCount count)
+order_from commands.Solve count (Some file) plan limits = Ok (Solve file limits)
+order_from commands.Validate count (Some file) None limits = Err (Missing count)
+order_from commands.Validate count (Some file) (Some plan) limits = Ok (Validate file plan limits)
 
--- the order, where there is no fault
-abbrev pub judged : Order → List WordFault → Result Order WordFault
-judged order [] = Ok order
+-- the same of all arguments
+abbrev pub whole_order : Command → ℕ → List Argument → Result Order WordFault
+whole_order command count arguments =
+    order_from command count (only_file (files_of arguments)) (value_of arguments PlanFile)
+    (limits_of arguments)
+
+-- the faults of single words come first
+abbrev pub judged : Result Order WordFault → List WordFault → Result Order WordFault
+judged order [] = order
 judged order (fault ∷ rest) = Err fault
 
-abbrev pub ordered : Command → ℕ → List Part → Result Order WordFault
-ordered command count parts = judged (told_of command parts) (faults_of command count parts)
+abbrev pub ordered : Command → ℕ → List Argument → Result Order WordFault
+ordered command count arguments =
+    judged (whole_order command count arguments) (faults_from [] arguments)
 
 abbrev pub commanded : Option Command → List (List ℕ) → Result Order WordFault
 commanded None rest = Err (UnknownCommand 0)
-commanded (Some command) rest = ordered command (length rest + 1) (parts_of (options_of command) rest)
+commanded (Some command) rest =
+    ordered command (length rest + 1) (arguments_of (options_of command) rest)
 
 -- what the words say
 abbrev pub order_of : List (List ℕ) → Result Order WordFault
 order_of [] = Err (NoCommand 0)
 order_of (word ∷ rest) = commanded (command_named word) rest
-
-abbrev pub plan_fits : Command → Option (List ℕ) → Bool
-plan_fits Solve plan = true
-plan_fits Validate plan = is_some plan
 
 -- what is answered: this, or that memory was refused
 abbrev pub Answers : Result Order WordFault → Result Order WordFault → Type 0
@@ -131,9 +136,16 @@ Answers (Ok order) wanted = wanted ≡ Ok order
 Answers (Err NoMemory) wanted = Unit {0}
 Answers (Err fault) wanted = wanted ≡ Err fault
 
--- a plan file is named where one is to be judged
-abbrev pub HasPlan : Order → Type 0
-HasPlan order = IsTrue (plan_fits order.command order.plan)
+-- whether a fault says nothing of the words, but that memory was refused
+abbrev pub is_memory : WordFault → Bool
+is_memory NoMemory = true
+is_memory _ = false
+
+-- whether the words order `solve`
+abbrev pub is_solve : Result Order WordFault → Bool
+is_solve (Ok (Solve file limits)) = true
+is_solve (Ok (Validate file plan limits)) = false
+is_solve (Err fault) = false
 
 -- the first of some faults
 abbrev pub first_of : List WordFault → Option WordFault

@@ -3,8 +3,13 @@ use Rattle.std.specs.Prelude.{◌≡◌, ◌<◌, ◌⊎◌, ℕ, List, [], ◌�
 use Rattle.tp_spec.specs.declared.event.Cause.TheVariants.{Memory}
 use Rattle.tp_spec.specs.declared.event.Event.{Event}
 use Rattle.tp_spec.specs.declared.event.Event.TheVariants.{Publish, Limit, Exhaust, Halt}
+use Rattle.tp_spec.specs.declared.problem.Problem.{Problem}
+use Rattle.tp_spec.specs.Texts.{result_text}
+use Rattle.tp_world.specs.Sinks.{SinkView}
+use Rattle.run_cli.specs.Printing.{Prints}
 
--- the status for an event that ends a search: 0 for a plan, 1 where the search is exhausted, 2 at the limit, else 7
+-- the status for an event that ends a search: 0 for a plan, 1 where the search is exhausted, 2 at
+-- the limit, else 7
 abbrev pub status_of : Event → ℕ
 status_of (Publish actor id plan) = 0
 status_of Exhaust = 1
@@ -26,7 +31,8 @@ pub record HasResult (history : List Event) : Type 0 where
 
 -- the last event is no result
 abbrev pub HasNoResult : List Event → Type 0
-HasNoResult history = (front : List Event) (last : Event) → history ≡ front ++ last ∷ [] → status_of last ≡ 7
+HasNoResult history =
+    (front : List Event) (last : Event) → history ≡ front ++ last ∷ [] → status_of last ≡ 7
 
 -- the run was halted, since memory was refused
 pub record IsHalted (history : List Event) : Type 0 where
@@ -36,3 +42,11 @@ pub record IsHalted (history : List Event) : Type 0 where
 -- a history that ends with a result, or that was halted
 abbrev pub HasStopped : List Event → Type 0
 HasStopped history = IsHalted history ⊎ HasResult history
+
+-- the result of a history is put, at the status of its last event
+pub record PrintsResult (p : Problem) (history : List Event) (before after : SinkView) (status : ℕ)
+    : Type 0 where
+  pub wanted : ℕ
+  pub below : wanted < 3
+  pub ends : EndsAs history wanted
+  pub printed : Prints (result_text p history) wanted before after status

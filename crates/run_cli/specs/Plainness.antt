@@ -2,6 +2,7 @@
 use Rattle.std.specs.Prelude.{◌≡◌, ℕ, false, List}
 use Rattle.tp_spec.specs.declared.problem.Problem.{Problem}
 use Rattle.tp_spec.specs.Plain.{is_plain}
+use Rattle.tp_spec.specs.WellFormed.{IsWellFormed}
 use Rattle.tp_laws.specs.Early.{IsPlain}
 use Rattle.ground_text.specs.Faults.{TellsFault}
 use Rattle.ground_text.specs.Kept.{IsProblem}
@@ -21,13 +22,14 @@ pub record IsPlainText (text : List ℕ) (p : Problem) : Type 0 where
   pub text_is : IsTextOf text p
   pub plain : IsPlain p
 
--- a text is that of a problem that is not plain
+-- a text is that of a well-formed problem that is not plain
 pub record IsUnbuiltText (text : List ℕ) : Type 0 where
   pub problem : Problem
+  pub formed : IsWellFormed problem
   pub text_is : IsTextOf text problem
   pub unbuilt : is_plain problem ≡ false
 
--- a text is no problem's, and its fault is told; nothing is said where memory was refused
+-- a text is no problem's, and this is its fault; nothing is said where memory was refused
 pub record IsFaultyText (text : List ℕ) (fault : LineFault) : Type 0 where
   pub none : (p : Problem) → IsProblem p → text ≡ problem_text p → fault ≡ line_faults.NoMemory
   pub tells : TellsFault fault text

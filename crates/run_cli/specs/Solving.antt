@@ -1,123 +1,129 @@
--- What `solve` gives of a file: how its search ends, or why nothing is searched, and what the output holds then.
-use Rattle.std.specs.Prelude.{◌≡◌, ◌≢◌, ◌<◌, ℕ, List, [], ◌⊎◌, Option, codes}
-use Rattle.std.specs.Io.KnownBytes.{Appends, Keeps}
-use Rattle.tp_spec.specs.declared.event.Event.{Event}
+-- What `solve` gives of a file: how its search ends, or why nothing is searched.
+use Rattle.std.specs.Prelude.{◌≡◌, ◌⊎◌, ◌<◌, ℕ, List, [], ◌∷◌, codes}
 use Rattle.tp_spec.specs.declared.plan.Limits.{Limits}
 use Rattle.tp_spec.specs.declared.problem.Problem.{Problem}
 use Rattle.tp_spec.specs.Following.{IsBusy}
 use Rattle.tp_spec.specs.Machine.{IsWholeRun}
 use Rattle.tp_spec.specs.Texts.{out_text}
-use Rattle.tp_world.specs.Counts.{Rose}
-use Rattle.tp_world.specs.Requests.{Request}
-use Rattle.tp_world.specs.Sinks.{AppendsFront}
+use Rattle.tp_world.specs.Contents.{FilesView}
+use Rattle.tp_world.specs.Loads.{Wanted, AreLoaded, AsksFront}
+use Rattle.tp_world.specs.Sinks.{SinkView}
+use Rattle.tp_world.specs.Views.{Outside}
 use Rattle.run_cli.specs.Outcomes.{EndsAs, HasStopped}
 use Rattle.run_cli.specs.Plainness.{IsPlainText, IsUnbuiltText}
-use Rattle.run_cli.specs.Validating.{Contents, Holds, LoadsOne, IsGroundTooLong, RefusesGround}
+use Rattle.run_cli.specs.Printing.{Prints, PrintsNothing}
+use Rattle.run_cli.specs.Runs.{EndingView, HasReadings, IsBegun, IsIdle}
+use Rattle.run_cli.specs.Stopping.{IsStopped}
+use Rattle.run_cli.specs.Validating.{RefusesGround}
+use Rattle.run_cli.specs.declared.loading.Stop.{Stop}
+use Rattle.run_cli.specs.declared.loading.Stop.TheVariants.{Said, NoMemory}
 
--- A run of a problem that ends with a result: its history is a whole run, busy for the one worker, and ends with the outcome
--- of the status; the clock has the problem's unit of time.
-pub record IsSolution (p : Problem) (l : Limits) (rate status : ℕ) (history : List Event) : Type 0 where
-  pub whole : IsWholeRun p l history
-  pub ends : EndsAs history status
-  pub busy : IsBusy l 1 history
-  pub rated : rate ≡ p.scale
-
--- a result is printed: the output holds what it held and what the history prints
-pub record Solves (p : Problem) (l : Limits) (rate : ℕ) (before after : Option (List ℕ)) (status : ℕ) (history : List Event) : Type 0 where
-  pub solution : IsSolution p l rate status history
-  pub printed : Appends before after (out_text p history)
-
--- a put of a result failed: the output holds what it held and some bytes from the front of what the history prints
-pub record CutsOff (p : Problem) (l : Limits) (rate : ℕ) (before after : Option (List ℕ)) (history : List Event) : Type 0 where
-  pub status : ℕ
-  pub below : status < 3
-  pub solution : IsSolution p l rate status history
-  pub printed : AppendsFront before after (out_text p history)
-
--- a file holds a plain problem's text
-pub record HoldsPlain (told : Contents) (name : List ℕ) (p : Problem) : Type 0 where
+-- a file is loaded, and it is a plain problem's text
+pub record HoldsPlain (file : Wanted) (p : Problem) (before after : FilesView) : Type 0 where
   pub text : List ℕ
-  pub loaded : Holds told name text
+  pub loaded : AreLoaded (file ∷ []) (text ∷ []) before after
   pub read : IsPlainText text p
 
--- a whole run of the problem of the file
-pub record IsSearched (told : Contents) (name : List ℕ) (l : Limits) (history : List Event) : Type 0 where
-  pub problem : Problem
-  pub file : HoldsPlain told name problem
-  pub whole : IsWholeRun problem l history
+-- A search of a problem that ends with the result of this status, 0, 1 or 2: its history is a whole
+-- run, busy for the one worker, and ends with that result; the clock was begun with its scale.
+pub record IsSolution (p : Problem) (l : Limits) (status : ℕ) (ending : EndingView) : Type 0 where
+  pub below : status < 3
+  pub ends : EndsAs ending.history status
+  pub whole : IsWholeRun p l ending.history
+  pub busy : IsBusy l 1 ending.history
+  pub begun : IsBegun p.scale ending
+  pub readings : HasReadings ending
 
--- the problem of the file is solved
-pub record IsSolved (told : Contents) (name : List ℕ) (l : Limits) (rate : ℕ) (before after : Option (List ℕ)) (status : ℕ) (history : List Event) : Type 0 where
-  pub problem : Problem
-  pub file : HoldsPlain told name problem
-  pub solves : Solves problem l rate before after status history
+-- the problem is solved, and what the history prints is put
+pub record Solves (p : Problem) (l : Limits) (before after : SinkView) (ending : EndingView) :
+    Type 0 where
+  pub status : ℕ
+  pub solution : IsSolution p l status ending
+  pub printed : Prints (out_text p ending.history) status before after ending.status
 
--- the problem of the file is solved, and the put of its result failed
-pub record IsSolvedInPart (told : Contents) (name : List ℕ) (l : Limits) (rate : ℕ) (before after : Option (List ℕ)) (history : List Event) : Type 0 where
+-- Memory was refused in the search, or behind it: the history is empty, or a whole run that was
+-- halted or has a result.
+pub record IsHalfSolved (p : Problem) (l : Limits) (before after : SinkView) (ending : EndingView) :
+    Type 0 where
+  pub begun : IsBegun p.scale ending
+  pub readings : HasReadings ending
+  pub run : (ending.history ≡ []) ⊎ IsWholeRun p l ending.history
+  pub stopped : (ending.history ≡ []) ⊎ HasStopped ending.history
+  pub printed : PrintsNothing before after ending.status
+
+-- how a search of a plain problem ends
+abbrev pub EndsSearch : Problem → Limits → SinkView → SinkView → EndingView → Type 0
+EndsSearch p l before after ending =
+    Solves p l before after ending ⊎ IsHalfSolved p l before after ending
+
+-- the file is a plain problem's text, and the problem is searched
+pub record IsSearched (file : Wanted) (l : Limits) (before after : Outside) (ending : EndingView) :
+    Type 0 where
   pub problem : Problem
-  pub file : HoldsPlain told name problem
-  pub cuts : CutsOff problem l rate before after history
+  pub holds : HoldsPlain file problem before.files after.files
+  pub ends : EndsSearch problem l before.sink after.sink ending
 
 -- the file is the text of a problem that is not plain
-pub record IsNotBuilt (told : Contents) (name line : List ℕ) : Type 0 where
+pub record IsNotBuilt (file : Wanted) (before after : FilesView) (status : ℕ) (line : List ℕ) :
+    Type 0 where
   pub text : List ℕ
-  pub loaded : Holds told name text
+  pub loaded : AreLoaded (file ∷ []) (text ∷ []) before after
   pub unbuilt : IsUnbuiltText text
+  pub status_is : status ≡ 4
   pub line_is : line ≡ codes "refused ground 0 NotBuilt\n"
 
 -- the file is no problem's text
-pub record IsNoText (told : Contents) (name line : List ℕ) : Type 0 where
+pub record IsNoText (file : Wanted) (before after : FilesView) (status : ℕ) (line : List ℕ) :
+    Type 0 where
   pub text : List ℕ
-  pub loaded : Holds told name text
+  pub loaded : AreLoaded (file ∷ []) (text ∷ []) before after
   pub refuses : RefusesGround text line
+  pub status_is : status ≡ 4
 
--- why a file is refused
-abbrev pub IsUnsolvable : Contents → List ℕ → List ℕ → Type 0
-IsUnsolvable told name line = IsGroundTooLong told name line ⊎ (IsNotBuilt told name line ⊎ IsNoText told name line)
+-- why nothing is searched in a file, with the status and the line of it
+abbrev pub IsUnsearched : Wanted → FilesView → FilesView → ℕ → List ℕ → Type 0
+IsUnsearched file before after status line =
+    IsStopped (file ∷ []) before after status line
+    ⊎ (IsNotBuilt file before after status line ⊎ IsNoText file before after status line)
 
--- why nothing is searched in a file: the status, and the line that is printed; the count of failed loads rose where one failed
-pub record IsUnsearched (told : Contents) (name : List ℕ) (faults faults' status : ℕ) (line : List ℕ) : Type 0 where
-  pub statuses : (status ≡ 4) ⊎ (status ≡ 5)
-  pub refused : status ≡ 4 → IsUnsolvable told name line
-  pub unloaded : status ≡ 5 → Rose faults faults' × (line ≡ codes "fault ground\n")
+-- why nothing is searched; where memory was refused, a front of the file's loads was asked for
+abbrev pub IsPlainStop : Wanted → FilesView → FilesView → Stop → Type 0
+IsPlainStop file before after (Said answer) =
+    IsUnsearched file before after answer.status answer.line.items
+IsPlainStop file before after NoMemory = AsksFront (file ∷ []) before after
 
--- the output says why nothing is searched
-pub record SaysWhy (told : Contents) (name : List ℕ) (faults faults' : ℕ) (before after : Option (List ℕ)) (status : ℕ) : Type 0 where
+-- nothing is searched, and the line that says why is put
+pub record SaysWhy (file : Wanted) (before after : Outside) (status : ℕ) : Type 0 where
+  pub wanted : ℕ
   pub line : List ℕ
-  pub why : IsUnsearched told name faults faults' status line
-  pub printed : Appends before after line
+  pub why : IsUnsearched file before.files after.files wanted line
+  pub printed : Prints line wanted before.sink after.sink status
 
--- nothing is searched, and the put that says why failed
-pub record SaysWhyInPart (told : Contents) (name : List ℕ) (faults faults' : ℕ) (before after : Option (List ℕ)) (history : List Event) : Type 0 where
-  pub status : ℕ
-  pub line : List ℕ
-  pub why : IsUnsearched told name faults faults' status line
-  pub printed : AppendsFront before after line
-  pub none : history ≡ []
+-- memory was refused before the command's work: a front of its files was asked for
+pub record IsOutOfMemory (files : List Wanted) (before after : Outside) (status : ℕ) : Type 0 where
+  pub asked : AsksFront files before.files after.files
+  pub printed : PrintsNothing before.sink after.sink status
 
--- What `solve` gives of a file: at 0, 1 and 2 a result; at 4 and 5 why nothing is searched; at 6 a front of the one or of the
--- other; and at every status no history, or a whole run, which at 7 was halted or has a result. But for 7 the file was asked
--- for once, and nothing else.
-pub record EndsSolve (told : Contents) (name : List ℕ) (l : Limits) (rate faults faults' : ℕ) (asked asked' : List Request) (before after : Option (List ℕ)) (status : ℕ) (history : List Event) : Type 0 where
-  pub statuses : status ≢ 3
-  pub solved : status < 3 → IsSolved told name l rate before after status history
-  pub unsearched : (status ≡ 4) ⊎ (status ≡ 5) → SaysWhy told name faults faults' before after status
-  pub cut_off : status ≡ 6 → IsSolvedInPart told name l rate before after history ⊎ SaysWhyInPart told name faults faults' before after history
-  pub stopped : status ≡ 7 → (history ≡ []) ⊎ HasStopped history
-  pub run : (history ≡ []) ⊎ IsSearched told name l history
-  pub once : status < 7 → LoadsOne name asked asked'
+-- nothing is searched: the line that says why is put, or memory was refused
+abbrev pub EndsBefore : Wanted → Outside → Outside → ℕ → Type 0
+EndsBefore file before after status =
+    SaysWhy file before after status ⊎ IsOutOfMemory (file ∷ []) before after status
 
--- the file is read, nothing is searched, and nothing is put
-pub record IsLeft (told : Contents) (name : List ℕ) (before after : Option (List ℕ)) : Type 0 where
+-- What `solve` gives of a file: a search, or why nothing is searched; then there is no history, and
+-- the clock is as it came in.
+abbrev pub EndsSolve : Wanted → Limits → Outside → Outside → EndingView → Type 0
+EndsSolve file l before after ending =
+    IsSearched file l before after ending
+    ⊎ (EndsBefore file before after ending.status × IsIdle ending)
+
+-- the file is a plain problem's text, and nothing is put: 3
+pub record IsLeft (file : Wanted) (before after : Outside) (status : ℕ) : Type 0 where
   pub problem : Problem
-  pub file : HoldsPlain told name problem
-  pub kept : Keeps before after
+  pub holds : HoldsPlain file problem before.files after.files
+  pub status_is : status ≡ 3
+  pub unput : after.sink ≡ before.sink
 
--- What `solve` gives of a file where it may not search: at 3 that it could; else as where it may.
-pub record EndsUnsolved (told : Contents) (name : List ℕ) (faults faults' : ℕ) (asked asked' : List Request) (before after : Option (List ℕ)) (status : ℕ) (history : List Event) : Type 0 where
-  pub statuses : 2 < status
-  pub left : status ≡ 3 → IsLeft told name before after
-  pub unsearched : (status ≡ 4) ⊎ (status ≡ 5) → SaysWhy told name faults faults' before after status
-  pub cut_off : status ≡ 6 → SaysWhyInPart told name faults faults' before after history
-  pub none : history ≡ []
-  pub once : status < 7 → LoadsOne name asked asked'
+-- what `solve` gives of a file where it may not search
+abbrev pub EndsUnsolved : Wanted → Outside → Outside → ℕ → Type 0
+EndsUnsolved file before after status =
+    IsLeft file before after status ⊎ EndsBefore file before after status

@@ -11,7 +11,9 @@ start_mark fresh a = record { fresh = fresh; item = Start a }
 
 -- the starts that may join the last group, or that may open the next one, by their actions
 abbrev pub starts_by : Problem → Progress → Bool → List Mark
-starts_by p c fresh = map (start_mark fresh) (filter (λ a. may_follow p c (start_mark fresh a)) (range_with_len 0 (length p.actions)))
+starts_by p c fresh =
+    map (start_mark fresh)
+    (filter (λ a. may_follow p c (start_mark fresh a)) (range_with_len 0 (length p.actions)))
 
 -- those that may join, and behind them, where a group may be opened, those that may open it
 abbrev pub starts_after : Problem → Progress → Bool → List Mark

@@ -1,54 +1,52 @@
--- What each status says of a run: of its words, of its command, and of what the output holds.
-use Rattle.std.specs.Prelude.{◌≡◌, ◌≢◌, ◌<◌, ◌⊎◌, ℕ, List, [], Option, Ok, Err}
-use Rattle.std.specs.Io.KnownBytes.{Appends}
-use Rattle.tp_spec.specs.declared.event.Event.{Event}
+-- What a run gives: of its words, and of its command.
+use Rattle.std.specs.Prelude.{◌≡◌, ◌⊎◌, ℕ, List, [], ◌∷◌, Result, Ok, Err}
 use Rattle.tp_spec.specs.declared.plan.Limits.{Limits}
-use Rattle.tp_world.specs.Requests.{Request}
-use Rattle.tp_world.specs.Sinks.{AppendsFront}
-use Rattle.run_cli.specs.Commands.{first_file, plan_file}
-use Rattle.run_cli.specs.Orders.{order_of, fault_text}
-use Rattle.run_cli.specs.Solving.{EndsSolve, EndsUnsolved}
-use Rattle.run_cli.specs.Validating.{Contents, IsAnswered, IsCutOff}
-use Rattle.run_cli.specs.declared.options.Command.{Command}
-use Rattle.run_cli.specs.declared.options.Command.TheVariants.{Solve, Validate}
+use Rattle.tp_world.specs.Loads.{Wanted}
+use Rattle.tp_world.specs.Views.{Outside}
+use Rattle.run_cli.specs.Orders.{fault_text}
+use Rattle.run_cli.specs.Printing.{Prints, PrintsNothing}
+use Rattle.run_cli.specs.Runs.{EndingView, IsIdle}
+use Rattle.run_cli.specs.Solving.{EndsSolve, EndsUnsolved, IsOutOfMemory}
+use Rattle.run_cli.specs.Stopping.{ground_file, ground_and_plan}
+use Rattle.run_cli.specs.Validating.{IsAnswer}
 use Rattle.run_cli.specs.declared.words.Order.{Order}
+use Rattle.run_cli.specs.declared.words.Order.TheVariants.{Solve, Validate}
 use Rattle.run_cli.specs.declared.words.WordFault.{WordFault}
 
--- the words are refused, and the output says so
-pub record AreRefused (words : List (List ℕ)) (before after : Option (List ℕ)) : Type 0 where
-  pub fault : WordFault
-  pub is : order_of words ≡ Err fault
-  pub printed : Appends before after (fault_text fault)
+-- Refused words: their line is put, at status 3, or memory was refused; no file is asked for.
+pub record EndsRefused (fault : WordFault) (before after : Outside) (status : ℕ) : Type 0 where
+  pub unasked : after.files ≡ before.files
+  pub ends : Prints (fault_text fault) 3 before.sink after.sink status
+      ⊎ PrintsNothing before.sink after.sink status
 
--- What refused words give: status 3, unless the put of their line fails or memory is refused; and no history.
-pub record EndsRefused (fault : WordFault) (before after : Option (List ℕ)) (status : ℕ) (history : List Event) : Type 0 where
-  pub statuses : (status ≡ 3) ⊎ ((status ≡ 6) ⊎ (status ≡ 7))
-  pub cut_off : status ≡ 6 → AppendsFront before after (fault_text fault)
-  pub none : history ≡ []
+-- the line of what the files give is put
+pub record IsJudged (limits : Limits) (files : List Wanted) (before after : Outside) (status : ℕ) :
+    Type 0 where
+  pub wanted : ℕ
+  pub line : List ℕ
+  pub answer : IsAnswer limits files before.files after.files wanted line
+  pub printed : Prints line wanted before.sink after.sink status
 
--- What `validate` gives of its files: a verdict, a refusal or a failed load, or a front of its line; and no history.
-pub record EndsValidate (told : Contents) (name plan : List ℕ) (l : Limits) (faults faults' : ℕ) (asked asked' : List Request) (before after : Option (List ℕ)) (status : ℕ) (history : List Event) : Type 0 where
-  pub statuses : status ≢ 3
-  pub answered : status < 6 → IsAnswered told name plan l faults faults' asked asked' before after status
-  pub cut_off : status ≡ 6 → IsCutOff told name plan l faults faults' asked asked' before after
-  pub none : history ≡ []
+-- what `validate` gives of a ground file and a plan file
+abbrev pub EndsValidate : Limits → List Wanted → Outside → Outside → ℕ → Type 0
+EndsValidate limits files before after status =
+    IsJudged limits files before after status ⊎ IsOutOfMemory files before after status
 
--- what a command gives
-abbrev pub EndsCommand : Contents → Order → ℕ → ℕ → ℕ → List Request → List Request → Option (List ℕ) → Option (List ℕ) → ℕ → List Event → Command → Type 0
-EndsCommand told order rate faults faults' asked asked' before after status history Solve =
-    EndsSolve told (first_file order) order.limits rate faults faults' asked asked' before after status history
-EndsCommand told order rate faults faults' asked asked' before after status history Validate =
-    EndsValidate told (first_file order) (plan_file order) order.limits faults faults' asked asked' before after status history
+-- what a run gives that waits for nobody: all but `solve`, which ends before its search
+abbrev pub EndsLocal : Result Order WordFault → Outside → Outside → ℕ → Type 0
+EndsLocal (Err fault) before after status = EndsRefused fault before after status
+EndsLocal (Ok (Solve ground_name limits)) before after status =
+    EndsUnsolved (ground_file ground_name) before after status
+EndsLocal (Ok (Validate ground_name plan_name limits)) before after status =
+    EndsValidate limits (ground_and_plan ground_name plan_name) before after status
 
--- what a command gives where none may wait: every command but `solve` the same
-abbrev pub EndsLocal : Contents → Order → ℕ → ℕ → List Request → List Request → Option (List ℕ) → Option (List ℕ) → ℕ → List Event → Command → Type 0
-EndsLocal told order faults faults' asked asked' before after status history Solve =
-    EndsUnsolved told (first_file order) faults faults' asked asked' before after status history
-EndsLocal told order faults faults' asked asked' before after status history Validate =
-    EndsValidate told (first_file order) (plan_file order) order.limits faults faults' asked asked' before after status history
-
--- the words order `solve`
-pub record AreOfSolve (words : List (List ℕ)) : Type 0 where
-  pub order : Order
-  pub is : order_of words ≡ Ok order
-  pub solve : order.command ≡ Solve
+-- what a run gives: `solve` its search, and all else the same with no history, and with the clock
+-- as it came in
+abbrev pub EndsRun : Result Order WordFault → Outside → Outside → EndingView → Type 0
+EndsRun (Err fault) before after ending =
+    EndsRefused fault before after ending.status × IsIdle ending
+EndsRun (Ok (Solve ground_name limits)) before after ending =
+    EndsSolve (ground_file ground_name) limits before after ending
+EndsRun (Ok (Validate ground_name plan_name limits)) before after ending =
+    EndsValidate limits (ground_and_plan ground_name plan_name) before after ending.status
+    × IsIdle ending

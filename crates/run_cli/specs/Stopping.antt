@@ -1,19 +1,67 @@
--- Why a command ends before its work.
-use Rattle.std.specs.Prelude.{ℕ, List, Option, Some, codes}
-use Rattle.run_cli.specs.Solving.{IsUnsearched}
-use Rattle.run_cli.specs.Validating.{Contents}
+-- The files of a command, and why it ends before its work.
+use Rattle.std.specs.Prelude.{◌≡◌, ◌⊎◌, ℕ, List, [], ◌∷◌, ◌++◌, Option, Some, codes, decimal}
+use Rattle.tp_world.specs.Contents.{FilesView}
+use Rattle.tp_world.specs.Loads.{Wanted, AsksFront, IsTooLongAt, FailsAt}
 use Rattle.run_cli.specs.VerdictTexts.{ground_line}
+use Rattle.run_cli.specs.declared.loading.Role.{Role}
+use Rattle.run_cli.specs.declared.loading.Role.TheVariants.{GroundText, PlanFile}
 use Rattle.run_cli.specs.declared.loading.Stop.{Stop}
 use Rattle.run_cli.specs.declared.loading.Stop.TheVariants.{Said, NoMemory}
 use Rattle.run_cli.specs.declared.reader.PlainFault.{PlainFault}
 use Rattle.run_cli.specs.declared.reader.PlainFault.TheVariants.{NotBuilt, Refused}
 
+abbrev pub role_name : Role → List ℕ
+role_name GroundText = codes "ground"
+role_name PlanFile = codes "plan"
+
+-- a file of this role, of at most 1,048,576 bytes
+abbrev pub file_of : Role → List ℕ → Wanted
+file_of role name = record { role = role_name role; name = name; most = 1048576 }
+
+-- the file of `solve`
+abbrev pub ground_file : List ℕ → Wanted
+ground_file name = file_of GroundText name
+
+-- the files of `validate`, in their order
+abbrev pub ground_and_plan : List ℕ → List ℕ → List Wanted
+ground_and_plan ground_name plan_name =
+    file_of GroundText ground_name ∷ file_of PlanFile plan_name ∷ []
+
+abbrev pub too_long_line : Wanted → List ℕ
+too_long_line file =
+    codes "refused " ++ file.role ++ codes " " ++ decimal file.most ++ codes " FileTooLong\n"
+
+abbrev pub failed_line : Wanted → List ℕ
+failed_line file = codes "fault " ++ file.role ++ codes "\n"
+
+-- a file is too long, and the line says so
+pub record IsTooLong (files : List Wanted) (before after : FilesView) (status : ℕ) (line : List ℕ) :
+    Type 0 where
+  pub file : Wanted
+  pub at : IsTooLongAt files file before after
+  pub status_is : status ≡ 4
+  pub line_is : line ≡ too_long_line file
+
+-- a load failed, and the line says so
+pub record IsUnloaded (files : List Wanted) (before after : FilesView) (status : ℕ) (line : List ℕ)
+    : Type 0 where
+  pub file : Wanted
+  pub at : FailsAt files file before after
+  pub status_is : status ≡ 5
+  pub line_is : line ≡ failed_line file
+
+-- not all files were loaded
+abbrev pub IsStopped : List Wanted → FilesView → FilesView → ℕ → List ℕ → Type 0
+IsStopped files before after status line =
+    IsTooLong files before after status line ⊎ IsUnloaded files before after status line
+
+-- why not all files were loaded; where memory was refused, a front of them was asked for
+abbrev pub IsStop : List Wanted → FilesView → FilesView → Stop → Type 0
+IsStop files before after (Said answer) =
+    IsStopped files before after answer.status answer.line.items
+IsStop files before after NoMemory = AsksFront files before after
+
 -- the line for a text that gives no plain problem; none where memory is refused
 abbrev pub plain_line : PlainFault → Option (List ℕ)
 plain_line NotBuilt = Some (codes "refused ground 0 NotBuilt\n")
 plain_line (Refused fault) = ground_line fault
-
--- why nothing is searched in a file; nothing is said where memory was refused
-abbrev pub IsStop : Contents → List ℕ → ℕ → ℕ → Stop → Type 0
-IsStop told name faults faults' (Said answer) = IsUnsearched told name faults faults' answer.status answer.line.items
-IsStop told name faults faults' NoMemory = Unit {0}

@@ -1,35 +1,35 @@
-ghost use Rattle.std.specs.Prelude.{◌≡◌, ◌++◌, ◌∷◌, [], map, IfOk, OnOk, string_bytes};
+ghost use Rattle.std.specs.Prelude.{◌≡◌, ◌<◌, ◌^◌, ◌++◌, ◌∷◌, [], map, length, IfOk, OnOk, string_bytes};
 ghost use Rattle.std.specs.Option.{option_map};
 ghost use Rattle.run_cli.specs.Options.{options_of};
-ghost use Rattle.run_cli.specs.Parts.{begins_with_dash as begins_with_dash_of};
-ghost use Rattle.run_cli.specs.Parts.{long_sort, without_dash, undashed, sort_of, part_of, names_at, part_at, awaited_at, last_part, parts_of, seen, seen_sort};
+ghost use Rattle.run_cli.specs.Arguments.{begins_with_dash as begins_with_dash_of};
+ghost use Rattle.run_cli.specs.Arguments.{long_sort, without_dash, undashed, sort_of, argument_of, names_at, argument_at, awaited_at, last_argument, arguments_of, view_of, sort_view};
 
 use crate::options::{Command, Setting, option_named};
 use std::alloc::Global;
 use tp_spec::NoMemory;
 
-/// What the words behind the command say, part by part. A place is the index of a word.
+/// What the words behind the command say, one by one. A place is the index of a word.
 #[derive(Clone, Copy)]
-pub enum Part<'a> {
+pub enum Argument<'a> {
     /// A file.
     File {
         name: &'a str,
     },
     /// An option and its value, with the places of the words in which they stand.
     Given {
-        at: usize,
+        at: u32,
         setting: Setting,
-        value_at: usize,
+        value_at: u32,
         value: &'a str,
     },
     /// An option that is the last word and has no value.
     Bare {
-        at: usize,
+        at: u32,
         setting: Setting,
     },
     /// A word with a dash that is no option of the command.
     Strange {
-        at: usize,
+        at: u32,
     },
 }
 
@@ -49,7 +49,7 @@ enum Sort<'a> {
 /// An option that waits for its value, and its place.
 #[derive(Clone, Copy)]
 struct Awaited {
-    at: usize,
+    at: u32,
     setting: Setting,
 }
 
@@ -78,7 +78,7 @@ fn begins_with_dash(word: &[u8]) -> bool
 
 /// What a text behind two dashes is: a name, or a name and a value round the first `=`.
 fn long_sort(command: Command, text: &str) -> Sort<'_>
-    ensures { seen_sort result ≡ long_sort (options_of command) text.now }
+    ensures { sort_view result ≡ long_sort (options_of command) text.now }
 {
     match text.split_once('=') {
         Some((name, value)) => match option_named(command, name.as_bytes()) {
@@ -93,7 +93,7 @@ fn long_sort(command: Command, text: &str) -> Sort<'_>
 }
 
 fn sort_of(command: Command, word: &str) -> Sort<'_>
-    ensures { seen_sort result ≡ sort_of (options_of command) word.now }
+    ensures { sort_view result ≡ sort_of (options_of command) word.now }
 {
     match undashed(word) {
         Some(text) => long_sort(command, text),
@@ -107,32 +107,36 @@ fn sort_of(command: Command, word: &str) -> Sort<'_>
     }
 }
 
-/// Puts a part behind the others.
-fn push<'a>(parts: &mut Vec<Part<'a>>, part: Part<'a>) -> Result<(), NoMemory>
-    ensures { OnOk result (map seen parts.new.items ≡ map seen parts.old.items ++ seen part.entry ∷ []) }
+/// Puts an argument behind the others.
+fn push<'a>(arguments: &mut Vec<Argument<'a>>, argument: Argument<'a>) -> Result<(), NoMemory>
+    ensures { OnOk result (map view_of arguments.new.items ≡ map view_of arguments.old.items
+        ++ view_of argument.entry ∷ []) }
 {
-    match parts.push(part) {
+    match arguments.push(argument) {
         Ok(()) => Ok(()),
         Err(_) => Err(NoMemory),
     }
 }
 
-/// Puts what a word by itself says behind the other parts, and gives the option that now waits for its value.
+/// Puts what a word by itself says behind the other arguments, and gives the option that now waits
+/// for its value.
 fn push_sort<'a>(
-    parts: &mut Vec<Part<'a>>,
+    arguments: &mut Vec<Argument<'a>>,
     command: Command,
-    at: usize,
+    at: u32,
     name: &'a str,
 ) -> Result<Option<Awaited>, NoMemory>
-    ensures parts { IfOk result (λ a. map seen parts.new.items ≡ map seen parts.old.items ++ part_of at name.now (sort_of (options_of command) name.now)) }
+    ensures arguments { IfOk result (λ a. map view_of arguments.new.items
+        ≡ map view_of arguments.old.items
+        ++ argument_of at name.now (sort_of (options_of command) name.now)) }
     ensures awaited { IfOk result (λ a. a ≡ names_at at (sort_of (options_of command) name.now)) }
 {
     match sort_of(command, name) {
         Sort::Names { setting } => Ok(Some(Awaited { at, setting })),
         Sort::Assigns { setting, value } => {
             push(
-                parts,
-                Part::Given {
+                arguments,
+                Argument::Given {
                     at,
                     setting,
                     value_at: at,
@@ -142,32 +146,34 @@ fn push_sort<'a>(
             Ok(None)
         }
         Sort::Unknown => {
-            push(parts, Part::Strange { at })?;
+            push(arguments, Argument::Strange { at })?;
             Ok(None)
         }
         Sort::Plain => {
-            push(parts, Part::File { name })?;
+            push(arguments, Argument::File { name })?;
             Ok(None)
         }
     }
 }
 
-/// Puts what a word says behind the other parts, and gives the option that now waits for its value.
+/// Puts what a word says behind the other arguments, and gives the option that now waits for its
+/// value.
 fn push_word<'a>(
-    parts: &mut Vec<Part<'a>>,
+    arguments: &mut Vec<Argument<'a>>,
     command: Command,
-    at: usize,
+    at: u32,
     awaited: Option<Awaited>,
     word: &'a str,
 ) -> Result<Option<Awaited>, NoMemory>
-    ensures parts { IfOk result (λ a. map seen parts.new.items ≡ map seen parts.old.items ++ part_at (options_of command) at awaited word.now) }
+    ensures arguments { IfOk result (λ a. map view_of arguments.new.items
+        ≡ map view_of arguments.old.items ++ argument_at (options_of command) at awaited word.now) }
     ensures awaited { IfOk result (λ a. a ≡ awaited_at (options_of command) at awaited word.now) }
 {
     match awaited {
         Some(option) => {
             push(
-                parts,
-                Part::Given {
+                arguments,
+                Argument::Given {
                     at: option.at,
                     setting: option.setting,
                     value_at: at,
@@ -176,18 +182,19 @@ fn push_word<'a>(
             )?;
             Ok(None)
         }
-        None => push_sort(parts, command, at, word),
+        None => push_sort(arguments, command, at, word),
     }
 }
 
-/// Puts an option that still waits for its value behind the other parts.
-fn push_last(parts: &mut Vec<Part<'_>>, awaited: Option<Awaited>) -> Result<(), NoMemory>
-    ensures { OnOk result (map seen parts.new.items ≡ map seen parts.old.items ++ last_part awaited) }
+/// Puts an option that still waits for its value behind the other arguments.
+fn push_last(arguments: &mut Vec<Argument<'_>>, awaited: Option<Awaited>) -> Result<(), NoMemory>
+    ensures { OnOk result (map view_of arguments.new.items ≡ map view_of arguments.old.items
+        ++ last_argument awaited) }
 {
     match awaited {
         Some(option) => push(
-            parts,
-            Part::Bare {
+            arguments,
+            Argument::Bare {
                 at: option.at,
                 setting: option.setting,
             },
@@ -196,21 +203,23 @@ fn push_last(parts: &mut Vec<Part<'_>>, awaited: Option<Awaited>) -> Result<(), 
     }
 }
 
-/// The parts that the words behind a command say.
-pub fn parts_of(
+/// What the words behind a command say.
+pub fn arguments_of(
     alloc: Global,
     command: Command,
     words: &[String],
-) -> Result<Vec<Part<'_>>, NoMemory>
-    ensures { IfOk result (λ v. map seen v.items ≡ parts_of (options_of command) (map string_bytes words.now)) }
+) -> Result<Vec<Argument<'_>>, NoMemory>
+    requires { length words.now < 2 ^ 31 }
+    ensures { IfOk result (λ v. map view_of v.items
+        ≡ arguments_of (options_of command) (map string_bytes words.now)) }
 {
-    let mut parts = Vec::new(alloc);
-    let mut at = 1;
+    let mut arguments = Vec::new(alloc);
+    let mut at = 1u32;
     let mut awaited = None;
     for word in words {
-        awaited = push_word(&mut parts, command, at, awaited, word.as_str())?;
+        awaited = push_word(&mut arguments, command, at, awaited, word.as_str())?;
         at += 1;
     }
-    push_last(&mut parts, awaited)?;
-    Ok(parts)
+    push_last(&mut arguments, awaited)?;
+    Ok(arguments)
 }

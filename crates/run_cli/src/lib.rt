@@ -2,22 +2,20 @@
 #![tactic(auto)]
 
 mod answer;
+mod arguments;
 mod command;
+mod ending;
 mod loading;
 mod options;
-mod parts;
 mod printing;
 mod reader;
 mod search;
 mod solving;
 mod sprouting;
-#[cfg(test)]
-mod tests;
 mod validating;
 mod verdicts;
 mod words;
 
-pub use answer::Ending;
 pub use command::{run, run_local};
-pub use options::Command;
+pub use ending::Ending;
 pub use words::{Order, WordFault, fault_line, read_words};

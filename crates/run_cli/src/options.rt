@@ -1,7 +1,7 @@
 ghost use Rattle.std.specs.Prelude.{◌≡◌, ◌≤◌, IfSome};
 ghost use Rattle.std.specs.Char.{is_ascii_digit};
 ghost use Rattle.std.specs.List.{list_all};
-ghost use Rattle.run_cli.specs.Options.{command_named, name_of, options_of, needed_of, option_named, is_number, within, number_in, range_of};
+ghost use Rattle.run_cli.specs.Options.{command_named, name_of, options_of, option_named, is_number, within, number_in, range_of};
 
 /// A command of the program.
 #[derive(Clone, Copy, Debug, PartialEq, Eq)]
@@ -57,16 +57,6 @@ fn options_of(command: Command) -> &'static [Setting]
     match command {
         Command::Solve => &[Setting::Actions, Setting::Horizon, Setting::Nodes],
         Command::Validate => &[Setting::PlanFile, Setting::Actions, Setting::Horizon],
-    }
-}
-
-/// The options that a command can't do without.
-pub fn needed_of(command: Command) -> &'static [Setting]
-    ensures { result.now ≡ needed_of command }
-{
-    match command {
-        Command::Solve => &[],
-        Command::Validate => &[Setting::PlanFile],
     }
 }
 

@@ -35,7 +35,8 @@ pub fn read_plain(alloc: Global, text: &[u8]) -> Result<Problem, PlainFault>
     }
 }
 
-/// Whether every action of a problem is instant, and there are no fluents, no timed items and no comparisons.
+/// Whether every action of a problem is instant, and there are no fluents, no timed items and no
+/// comparisons.
 fn is_plain(problem: &Problem) -> bool
     ensures { result ≡ is_plain_of problem.now }
 {

@@ -9,8 +9,8 @@ use std::alloc::Global;
 use tp_spec::{Cause, NoMemory, Problem};
 use tp_world::Clock;
 
-/// One worker, actor 1, takes a node, sprouts it and merges the sprouts, again and again, until an outcome stands. Where
-/// memory is refused the run is halted.
+/// One worker, actor 1, takes a node, sprouts it and merges the sprouts, again and again, until an
+/// outcome stands. Where memory is refused the run is halted.
 pub fn search<C: Clock>(alloc: Global, problem: &Problem, tree: &mut Tree<'_, C>)
     requires problem { tree.old.problem ≡ problem.now }
     requires searching { IsSearching problem.now tree.old.limits tree.old.history }
@@ -47,7 +47,8 @@ fn grow<'p, C: Clock>(
     requires tables { AreTables problem.now actions.now }
     requires holding { IsHolding problem.now tree.old.limits tree.old.history job }
     ensures charter { SameCharter tree.old tree.new }
-    ensures on { result ≡ true → GoesOn problem.now tree.old.limits tree.old.history tree.new.history }
+    ensures on { result ≡ true
+        → GoesOn problem.now tree.old.limits tree.old.history tree.new.history }
     ensures off { result ≡ false → HasSearched tree.old.limits tree.new.history }
 {
     let Ok(marks) = live_marks(alloc, problem, actions, &job) else {

@@ -1,22 +1,18 @@
-ghost use Rattle.std.specs.Prelude.{◌≡◌, ◌<◌, ◌⊎◌, [], IfOk, OnErr, MatchOption};
-ghost use Rattle.std.specs.Io.KnownBytes.{Appends, Keeps};
-ghost use Rattle.tp_spec.specs.Machine.{IsWholeRun};
-ghost use Rattle.tp_spec.specs.Texts.{result_text as result_text_of};
+ghost use Rattle.std.specs.Prelude.{◌≡◌, ◌<◌, ◌⊎◌, [], MatchOption};
 ghost use Rattle.tp_laws.specs.Early.{IsPlain};
-ghost use Rattle.tp_world.specs.Counts.{Rose};
-ghost use Rattle.tp_world.specs.Sinks.{AppendsFront};
-ghost use Rattle.open_tree.specs.Turns.{IsTold};
-ghost use Rattle.run_cli.specs.Outcomes.{status_of, EndsAs, HasResult, HasNoResult, HasStopped};
-ghost use Rattle.run_cli.specs.Solving.{Solves, CutsOff, EndsSolve};
+ghost use Rattle.run_cli.specs.Outcomes.{status_of, EndsAs, HasNoResult, PrintsResult};
+ghost use Rattle.run_cli.specs.Printing.{PrintsNothing};
+ghost use Rattle.run_cli.specs.Solving.{EndsSearch, EndsSolve, EndsUnsolved};
+ghost use Rattle.run_cli.specs.Stopping.{ground_file};
 
-use crate::answer::{Ending, say, unsearched};
+use crate::ending::{Ending, put, say, unsearched};
 use crate::loading::{Stop, load_plain};
 use crate::printing::result_text;
 use crate::search::search;
 use open_tree::Tree;
 use std::alloc::Global;
 use tp_spec::{Event, Limits, NoMemory, Problem};
-use tp_world::{Clock, Files, SendFault, Sink};
+use tp_world::{Clock, Files, Sink};
 
 /// Loads and reads a ground text, and solves its problem.
 pub fn solve_file<F: Files, O: Sink, C: Clock>(
@@ -27,17 +23,57 @@ pub fn solve_file<F: Files, O: Sink, C: Clock>(
     out: &mut O,
     clock: C,
 ) -> Ending<C>
-    ensures statuses { result.status < 8 }
-    ensures command { EndsSolve (F.contents files.old) name.now limits (C.rate result.clock) (F.load_faults files.old) (F.load_faults files.new) (F.requests files.old) (F.requests files.new) (O.held out.old) (O.held out.new) result.status result.history.items }
-    ensures write { result.status ≡ 6 → Rose (O.faults out.old) (O.faults out.new) }
-    ensures kept { result.status ≡ 7 → Keeps (O.held out.old) (O.held out.new) }
-    ensures empty { (result.status ≡ 4) ⊎ (result.status ≡ 5) → result.history.items ≡ [] }
-    ensures contents { F.contents files.new ≡ F.contents files.old }
-    ensures told { IsTold (C.count clock) (C.count result.clock) (C.last clock) (C.last result.clock) (C.given clock) result.history.items }
+    ensures ends { EndsSolve (ground_file name.now) limits (record {
+      files = F.view files.old;
+      sink = O.view out.old;
+    }) (record { files = F.view files.new; sink = O.view out.new }) (record {
+      status = result.status;
+      history = result.history.items;
+      began = record {
+        count = C.count clock;
+        last = C.last clock;
+        rate = C.rate clock;
+        given = C.given clock;
+        begun = C.begun clock;
+      };
+      ended = record {
+        count = C.count result.clock;
+        last = C.last result.clock;
+        rate = C.rate result.clock;
+        given = C.given result.clock;
+        begun = C.begun result.clock;
+      };
+    }) }
+    ensures contents { (F.view files.new).contents ≡ (F.view files.old).contents }
+    ensures same { 2 < result.status → result.status < 6 → result.clock ≡ clock }
 {
     match load_plain(alloc, name, files) {
         Ok(problem) => solve(alloc, &problem, limits, out, clock),
-        Err(Stop::Said { answer }) => say(alloc, out, &answer.line, answer.status, clock),
+        Err(Stop::Said { answer }) => say(alloc, out, answer, clock),
+        Err(Stop::NoMemory) => unsearched(alloc, 7, clock),
+    }
+}
+
+/// Loads and reads a ground text, and searches nothing. Where it is a plain problem's, nothing is
+/// put.
+pub fn leave_file<F: Files, O: Sink, C: Clock>(
+    alloc: Global,
+    name: &str,
+    files: &mut F,
+    out: &mut O,
+    clock: C,
+) -> Ending<C>
+    ensures ends { EndsUnsolved (ground_file name.now) (record {
+      files = F.view files.old;
+      sink = O.view out.old;
+    }) (record { files = F.view files.new; sink = O.view out.new }) result.status }
+    ensures contents { (F.view files.new).contents ≡ (F.view files.old).contents }
+    ensures history { result.history.items ≡ [] }
+    ensures clock { result.clock ≡ clock }
+{
+    match load_plain(alloc, name, files) {
+        Ok(_) => unsearched(alloc, 3, clock),
+        Err(Stop::Said { answer }) => say(alloc, out, answer, clock),
         Err(Stop::NoMemory) => unsearched(alloc, 7, clock),
     }
 }
@@ -51,14 +87,25 @@ fn solve<O: Sink, C: Clock>(
     mut clock: C,
 ) -> Ending<C>
     requires { IsPlain problem.now }
-    ensures cases { (result.status < 3) ⊎ ((result.status ≡ 6) ⊎ (result.status ≡ 7)) }
-    ensures write { result.status ≡ 6 → Rose (O.faults out.old) (O.faults out.new) }
-    ensures kept { result.status ≡ 7 → Keeps (O.held out.old) (O.held out.new) }
-    ensures told { IsTold (C.count clock) (C.count result.clock) (C.last clock) (C.last result.clock) (C.given clock) result.history.items }
-    ensures run { (result.history.items ≡ []) ⊎ IsWholeRun problem.now limits result.history.items }
-    ensures solved { result.status < 3 → Solves problem.now limits (C.rate result.clock) (O.held out.old) (O.held out.new) result.status result.history.items }
-    ensures cut_off { result.status ≡ 6 → CutsOff problem.now limits (C.rate result.clock) (O.held out.old) (O.held out.new) result.history.items }
-    ensures stopped { (result.history.items ≡ []) ⊎ HasStopped result.history.items }
+    ensures ends { EndsSearch problem.now limits (O.view out.old) (O.view out.new) (record {
+      status = result.status;
+      history = result.history.items;
+      began = record {
+        count = C.count clock;
+        last = C.last clock;
+        rate = C.rate clock;
+        given = C.given clock;
+        begun = C.begun clock;
+      };
+      ended = record {
+        count = C.count result.clock;
+        last = C.last result.clock;
+        rate = C.rate result.clock;
+        given = C.given result.clock;
+        begun = C.begun result.clock;
+      };
+    }) }
+    ensures statuses { (result.status < 3) ⊎ (5 < result.status) }
 {
     clock.begin(problem.scale);
     let mut tree = match Tree::new(alloc, problem, limits, clock) {
@@ -75,51 +122,25 @@ fn solve<O: Sink, C: Clock>(
     }
 }
 
-/// Prints the result of a history, and tells the status.
+/// Prints the result of a history. The status is that of its last event, 6 where the put fails, or
+/// 7 where memory is refused or the last event is no result.
 fn print_result<O: Sink>(alloc: Global, problem: &Problem, out: &mut O, history: &[Event]) -> u8
-    ensures cases { (result < 3) ⊎ ((result ≡ 6) ⊎ (result ≡ 7)) }
-    ensures write { result ≡ 6 → Rose (O.faults out.old) (O.faults out.new) }
-    ensures kept { result ≡ 7 → Keeps (O.held out.old) (O.held out.new) }
-    ensures ends { result < 3 → EndsAs history.now result }
-    ensures printed { result < 3 → Appends (O.held out.old) (O.held out.new) (result_text_of problem.now history.now) }
-    ensures result_stands { result ≡ 6 → HasResult history.now }
-    ensures front { result ≡ 6 → AppendsFront (O.held out.old) (O.held out.new) (result_text_of problem.now history.now) }
+    ensures { PrintsResult problem.now history.now (O.view out.old) (O.view out.new) result
+        ⊎ PrintsNothing (O.view out.old) (O.view out.new) result }
 {
-    match end_status(history) {
-        Some(status) => match put_result(alloc, problem, out, history, status) {
-            Ok(status) => status,
-            Err(NoMemory) => 7,
-        },
-        None => 7,
-    }
-}
-
-/// Puts the result of a history. The status is the one given, unless the put fails.
-fn put_result<O: Sink>(
-    alloc: Global,
-    problem: &Problem,
-    out: &mut O,
-    history: &[Event],
-    status: u8,
-) -> Result<u8, NoMemory>
-    requires { status < 3 }
-    ensures cases { IfOk result (λ r. (r ≡ status) ⊎ (r ≡ 6)) }
-    ensures printed { IfOk result (λ r. r ≡ status → Appends (O.held out.old) (O.held out.new) (result_text_of problem.now history.now)) }
-    ensures write { IfOk result (λ r. r ≡ 6 → Rose (O.faults out.old) (O.faults out.new)) }
-    ensures front { IfOk result (λ r. r ≡ 6 → AppendsFront (O.held out.old) (O.held out.new) (result_text_of problem.now history.now)) }
-    ensures kept { OnErr result (Keeps (O.held out.old) (O.held out.new)) }
-{
-    let text = result_text(alloc, problem, history)?;
-    match out.put(&text) {
-        Ok(()) => Ok(status),
-        Err(SendFault::Failed) => Ok(6),
-        Err(SendFault::NoMemory) => Err(NoMemory),
+    let Some(status) = end_status(history) else {
+        return 7;
+    };
+    match result_text(alloc, problem, history) {
+        Ok(text) => put(out, &text, status),
+        Err(NoMemory) => 7,
     }
 }
 
 /// The status for the result that a history ends with; none where it ends with none.
 fn end_status(history: &[Event]) -> Option<u8>
-    ensures { MatchOption result (HasNoResult history.now) (λ status. (status < 3) × EndsAs history.now status) }
+    ensures { MatchOption result (HasNoResult history.now)
+        (λ status. (status < 3) × EndsAs history.now status) }
 {
     match history {
         [.., last] => outcome_status(last),
@@ -129,7 +150,8 @@ fn end_status(history: &[Event]) -> Option<u8>
 
 /// The status for an event that ends a search; none for every other event.
 fn outcome_status(event: &Event) -> Option<u8>
-    ensures { MatchOption result (status_of event.now ≡ 7) (λ status. (status < 3) × (status ≡ status_of event.now)) }
+    ensures { MatchOption result (status_of event.now ≡ 7)
+        (λ status. (status < 3) × (status ≡ status_of event.now)) }
 {
     match event {
         Event::Publish { .. } => Some(0),

@@ -13,16 +13,20 @@ use open_tree::{Job, PlainActions, PlainWalk};
 use std::alloc::Global;
 use tp_spec::{Item, List, Mark, NoMemory, Problem};
 
-/// The marks that make the word of a job of a plain problem a live word, in order: those that join the last group, then
-/// those that open the next one, each by its action. A word of a plain problem has starts alone. It is live while they
-/// are at most the most acts and its groups fit the ticks from 0 to the horizon.
+/// The marks that make the word of a job of a plain problem a live word, in order: those that join
+/// the last group, then those that open the next one, each by its action. A word of a plain problem
+/// has starts alone. It is live while they are at most the most acts and its groups fit the ticks
+/// from 0 to the horizon.
 pub fn live_marks(
     alloc: Global,
     problem: &Problem,
     actions: &PlainActions,
     job: &Job<'_>,
 ) -> Result<List<Mark>, NoMemory>
-    ensures { is_plain problem.now ≡ true → AreTables problem.now actions.now → job.now.clock ≡ 0 → job.now.commits ≡ [] → Live problem.now job.now.limits 0 [] job.now.node.word → IfOk result (λ marks. AreLiveMarks problem.now job.now.limits (view_of job.now) job.now.node.word marks) }
+    ensures { is_plain problem.now ≡ true → AreTables problem.now actions.now → job.now.clock ≡ 0
+        → job.now.commits ≡ [] → Live problem.now job.now.limits 0 [] job.now.node.word
+        → IfOk result (λ marks. AreLiveMarks problem.now job.now.limits (view_of job.now)
+        job.now.node.word marks) }
 {
     let word = job.node().word();
     let limits = job.limits();
@@ -41,13 +45,15 @@ fn groups_in(word: &[Mark]) -> usize
     word.iter().filter(|mark| mark.fresh).count()
 }
 
-/// The starts that may join the last group of a word, then, where a group may be opened, those that may open it.
+/// The starts that may join the last group of a word, then, where a group may be opened, those that
+/// may open it.
 fn starts_behind(
     alloc: Global,
     walk: &mut PlainWalk<'_>,
     opens: bool,
 ) -> Result<List<Mark>, NoMemory>
-    ensures { (p : Ground) (c : Progress) → StandsFor p walk.old c → IfOk result (λ marks. marks ≡ starts_after p c opens) }
+    ensures { (p : Ground) (c : Progress) → StandsFor p walk.old c
+        → IfOk result (λ marks. marks ≡ starts_after p c opens) }
 {
     let mut marks = List::new(alloc);
     let joining = walk.joining(alloc)?;

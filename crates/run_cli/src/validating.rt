@@ -1,21 +1,24 @@
-ghost use Rattle.std.specs.Prelude.{◌≡◌, ◌<◌, ◌≤◌, ◌⊎◌, IfOk, length};
-ghost use Rattle.std.specs.Io.KnownBytes.{Keeps};
-ghost use Rattle.tp_world.specs.Counts.{Rose};
-ghost use Rattle.run_cli.specs.Validating.{verdict_status, IsPlanAnswer, IsTextAnswer, IsAnswer, IsAnswered, IsCutOff};
+ghost use Rattle.std.specs.Prelude.{◌≡◌, ◌<◌, ◌≤◌, ◌⊎◌, [], IfOk, OnErr, length};
+ghost use Rattle.tp_world.specs.Loads.{AsksFront};
+ghost use Rattle.run_cli.specs.Statuses.{EndsValidate};
+ghost use Rattle.run_cli.specs.Stopping.{ground_and_plan};
+ghost use Rattle.run_cli.specs.Validating.{verdict_status, IsPlanAnswer, IsTextAnswer, IsAnswer};
 
-use crate::answer::{Answer, put, said};
-use crate::loading::MOST_BYTES;
+use crate::answer::Answer;
+use crate::ending::{Ending, say, unsearched};
+use crate::loading::{Stop, load_both};
 use crate::verdicts::{ground_line, plan_line, verdict_text};
 use ground_text::read_problem_text;
 use plan_text::read_plan;
 use plan_validator::{Verdict, validate};
 use std::alloc::Global;
 use tp_spec::{Limits, NoMemory, Problem};
-use tp_world::{Files, LoadFault, Sink};
+use tp_world::{Clock, Files, Sink};
 
 /// 0 where a plan is valid, else 1.
 fn verdict_status(verdict: &Verdict) -> u8
-    ensures { result ≡ verdict_status verdict.now }
+    ensures status { result ≡ verdict_status verdict.now }
+    ensures below { result < 2 }
 {
     match verdict {
         Verdict::Valid => 0,
@@ -36,15 +39,14 @@ fn plan_answer(
     match read_plan(alloc, problem, bytes) {
         Ok(plan) => {
             let verdict = validate(alloc, problem, limits, &plan)?;
-            Ok(Answer {
-                status: verdict_status(&verdict),
-                line: verdict_text(alloc, verdict)?,
-            })
+            let status = verdict_status(&verdict);
+            let line = verdict_text(alloc, verdict)?;
+            Ok(Answer { status, line })
         }
-        Err(fault) => Ok(Answer {
-            status: 4,
-            line: plan_line(alloc, fault)?,
-        }),
+        Err(fault) => {
+            let line = plan_line(alloc, fault)?;
+            Ok(Answer { status: 4, line })
+        }
     }
 }
 
@@ -60,10 +62,10 @@ fn text_answer(
 {
     match read_problem_text(alloc, text) {
         Ok(problem) => plan_answer(alloc, &problem, limits, bytes),
-        Err(fault) => Ok(Answer {
-            status: 4,
-            line: ground_line(alloc, fault)?,
-        }),
+        Err(fault) => {
+            let line = ground_line(alloc, fault)?;
+            Ok(Answer { status: 4, line })
+        }
     }
 }
 
@@ -75,46 +77,42 @@ fn files_answer<F: Files>(
     limits: &Limits,
     files: &mut F,
 ) -> Result<Answer, NoMemory>
-    ensures answer { IfOk result (λ a. IsAnswer (F.contents files.old) ground_name.now plan_name.now limits.now (F.load_faults files.old) (F.load_faults files.new) (F.requests files.old) (F.requests files.new) a.status a.line.items) }
-    ensures contents { F.contents files.new ≡ F.contents files.old }
+    ensures answer { IfOk result (λ a. IsAnswer limits.now
+        (ground_and_plan ground_name.now plan_name.now) (F.view files.old) (F.view files.new)
+        a.status a.line.items) }
+    ensures memory { OnErr result (AsksFront (ground_and_plan ground_name.now plan_name.now)
+        (F.view files.old) (F.view files.new)) }
+    ensures contents { (F.view files.new).contents ≡ (F.view files.old).contents }
 {
-    let text = match files.load(alloc, ground_name, MOST_BYTES) {
-        Ok(text) => text,
-        Err(LoadFault::Failed) => return said(alloc, 5, b"fault ground\n"),
-        Err(LoadFault::TooLong) => {
-            return said(alloc, 4, b"refused ground 1048576 FileTooLong\n");
-        }
-        Err(LoadFault::NoMemory) => return Err(NoMemory),
-    };
-    let bytes = match files.load(alloc, plan_name, MOST_BYTES) {
-        Ok(bytes) => bytes,
-        Err(LoadFault::Failed) => return said(alloc, 5, b"fault plan\n"),
-        Err(LoadFault::TooLong) => return said(alloc, 4, b"refused plan 1048576 FileTooLong\n"),
-        Err(LoadFault::NoMemory) => return Err(NoMemory),
-    };
-    text_answer(alloc, limits, &text, &bytes)
+    match load_both(alloc, ground_name, plan_name, files) {
+        Ok((text, bytes)) => text_answer(alloc, limits, &text, &bytes),
+        Err(Stop::Said { answer }) => Ok(answer),
+        Err(Stop::NoMemory) => Err(NoMemory),
+    }
 }
 
-/// Judges the plan of the file `plan_name` for the problem of the ground text `ground_name`, and prints the verdict. Its status is
-/// 0 where the plan is valid and 1 where it is not, 4 where a file is refused, 5 where one can't be loaded, 6 where the
-/// output fails, and 7 where memory is refused.
-pub fn validate_files<F: Files, O: Sink>(
+/// Judges the plan of a plan file for the problem of a ground text, and prints the verdict. The
+/// status is 0 where the plan is valid and 1 where it is not, 4 where a file is refused, 5 where
+/// one can't be loaded, 6 where the output fails, and 7 where memory is refused.
+pub fn judge_files<F: Files, O: Sink, C: Clock>(
     alloc: Global,
     ground_name: &str,
     plan_name: &str,
     limits: &Limits,
     files: &mut F,
     out: &mut O,
-) -> u8
-    ensures statuses { (result < 2) ⊎ ((result ≡ 4) ⊎ ((result ≡ 5) ⊎ ((result ≡ 6) ⊎ (result ≡ 7)))) }
-    ensures answered { result < 6 → IsAnswered (F.contents files.old) ground_name.now plan_name.now limits.now (F.load_faults files.old) (F.load_faults files.new) (F.requests files.old) (F.requests files.new) (O.held out.old) (O.held out.new) result }
-    ensures write { result ≡ 6 → Rose (O.faults out.old) (O.faults out.new) }
-    ensures cut_off { result ≡ 6 → IsCutOff (F.contents files.old) ground_name.now plan_name.now limits.now (F.load_faults files.old) (F.load_faults files.new) (F.requests files.old) (F.requests files.new) (O.held out.old) (O.held out.new) }
-    ensures memory { result ≡ 7 → Keeps (O.held out.old) (O.held out.new) }
-    ensures contents { F.contents files.new ≡ F.contents files.old }
+    clock: C,
+) -> Ending<C>
+    ensures ends { EndsValidate limits.now (ground_and_plan ground_name.now plan_name.now) (record {
+      files = F.view files.old;
+      sink = O.view out.old;
+    }) (record { files = F.view files.new; sink = O.view out.new }) result.status }
+    ensures contents { (F.view files.new).contents ≡ (F.view files.old).contents }
+    ensures history { result.history.items ≡ [] }
+    ensures clock { result.clock ≡ clock }
 {
-    let Ok(answer) = files_answer(alloc, ground_name, plan_name, limits, files) else {
-        return 7;
-    };
-    put(out, &answer.line, answer.status)
+    match files_answer(alloc, ground_name, plan_name, limits, files) {
+        Ok(answer) => say(alloc, out, answer, clock),
+        Err(NoMemory) => unsearched(alloc, 7, clock),
+    }
 }

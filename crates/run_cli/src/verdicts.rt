@@ -40,7 +40,8 @@ fn numbered(alloc: Global, words: &[u8], number: u64, end: &[u8]) -> Result<Vec<
 
 /// A line of words and two numbers.
 fn twice_numbered(alloc: Global, words: &[u8], first: u64, second: u32) -> Result<Vec<u8>, NoMemory>
-    ensures { IfOk result (λ t. t.items ≡ words.now ++ decimal first ++ codes " " ++ decimal second ++ codes "\n") }
+    ensures { IfOk result (λ t. t.items ≡ words.now ++ decimal first ++ codes " " ++ decimal second
+        ++ codes "\n") }
 {
     let mut text = numbered(alloc, words, first, b" ")?;
     push_number(&mut text, u64::from(second))?;
@@ -49,7 +50,8 @@ fn twice_numbered(alloc: Global, words: &[u8], first: u64, second: u32) -> Resul
 }
 
 fn clash_text(alloc: Global, tick: u64, a: Item, b: Item) -> Result<Vec<u8>, NoMemory>
-    ensures { IfOk result (λ t. t.items ≡ codes "invalid Clash " ++ decimal tick ++ codes " " ++ item_text a ++ codes " " ++ item_text b ++ codes "\n") }
+    ensures { IfOk result (λ t. t.items ≡ codes "invalid Clash " ++ decimal tick ++ codes " "
+        ++ item_text a ++ codes " " ++ item_text b ++ codes "\n") }
 {
     let mut text = numbered(alloc, b"invalid Clash ", tick, b" ")?;
     push_item(&mut text, a)?;
@@ -60,7 +62,8 @@ fn clash_text(alloc: Global, tick: u64, a: Item, b: Item) -> Result<Vec<u8>, NoM
 }
 
 fn unmet_text(alloc: Global, tick: u64, item: Item) -> Result<Vec<u8>, NoMemory>
-    ensures { IfOk result (λ t. t.items ≡ codes "invalid Unmet " ++ decimal tick ++ codes " " ++ item_text item ++ codes "\n") }
+    ensures { IfOk result (λ t. t.items ≡ codes "invalid Unmet " ++ decimal tick ++ codes " "
+        ++ item_text item ++ codes "\n") }
 {
     let mut text = numbered(alloc, b"invalid Unmet ", tick, b" ")?;
     push_item(&mut text, item)?;
@@ -76,8 +79,9 @@ fn valid_text(alloc: Global) -> Result<Vec<u8>, NoMemory>
     Ok(text)
 }
 
-/// What is printed of a verdict: the line `valid`, or `invalid` with its name and its numbers in order. Ticks are
-/// printed as ticks at every scale, a timed item, an end and a start as `Tk`, `Ea` and `Sa` by their indices.
+/// What is printed of a verdict: the line `valid`, or `invalid` with its name and its numbers in
+/// order. Ticks are printed as ticks at every scale, a timed item, an end and a start as `Tk`, `Ea`
+/// and `Sa` by their indices.
 pub fn verdict_text(alloc: Global, verdict: Verdict) -> Result<Vec<u8>, NoMemory>
     ensures { IfOk result (λ t. t.items ≡ verdict_text verdict) }
 {

@@ -1,62 +1,65 @@
-ghost use Rattle.std.specs.Prelude.{◌≡◌, ◌≤◌, ◌++◌, ◌∷◌, [], None, false, map, length, IfOk, MatchOption, string_bytes};
+ghost use Rattle.std.specs.Prelude.{◌≡◌, ◌≤◌, ◌<◌, ◌^◌, ◌++◌, ◌∷◌, [], map, length, IfOk, MatchOption, string_bytes};
 ghost use Rattle.std.specs.Option.{option_map};
 ghost use Rattle.run_cli.specs.Options.{range_of};
-ghost use Rattle.run_cli.specs.Parts.{seen};
-ghost use Rattle.run_cli.specs.declared.options.Setting.TheVariants.{PlanFile as plan_file};
+ghost use Rattle.run_cli.specs.Arguments.{view_of};
 ghost use Rattle.run_cli.specs.declared.words.WordFault.TheVariants.{NoValue as no_value};
-ghost use Rattle.run_cli.specs.Orders.{gives, is_given, twice_faults, range_faults, part_faults, faults_from, files_of, is_short, faults_of, value_of, number_or, limits_of, told_of, order_of, Answers, first_of, named_fault, fault_text, HasPlan};
+ghost use Rattle.run_cli.specs.Orders.{gives, is_given, twice_faults, range_faults, argument_faults, faults_from, files_of, first_name, only_file, value_of, number_or, limits_of, order_from, ordered, order_of, Answers, first_of, named_fault, fault_text};
 
-use crate::options::{Command, Setting, command_named, name_of, needed_of, number_in, range_of};
-use crate::parts::{Part, parts_of};
+use crate::arguments::{Argument, arguments_of};
+use crate::options::{Command, Setting, command_named, name_of, number_in, range_of};
 use plan_text::{push_bytes, push_number};
 use std::alloc::Global;
 use thiserror::Error;
-use tp_spec::{Limits, List, Name, NoMemory};
+use tp_spec::{Limits, Name, NoMemory};
 
-/// What a command line orders.
+/// What a command line orders: a command, its files, and the limits of a run, with the default of
+/// each that is not given.
 #[derive(Drop)]
-pub struct Order {
-    /// The command.
-    pub command: Command,
-    /// The files: one.
-    pub files: List<Name>,
-    /// The limits of a run, with the default of each that is not given.
-    pub limits: Limits,
-    /// The plan file, which `validate` always has.
-    pub plan: Option<Name>,
+pub enum Order {
+    /// To search for a plan of the problem of a ground text.
+    Solve {
+        ground: Name,
+        limits: Limits,
+    },
+    /// To judge the plan of a plan file for the problem of a ground text.
+    Validate {
+        ground: Name,
+        plan: Name,
+        limits: Limits,
+    },
 }
 
-/// The first fault of a command line. `at` is the index of a word, the command's being 0. The last three stand behind
-/// all others, in this order, with the number of words for `at`.
+/// The first fault of a command line. `at` is the index of a word, the command's being 0. The last
+/// three stand behind all others, in this order, with the number of words for `at`.
 #[derive(Clone, Copy, Debug, PartialEq, Eq, Error)]
 pub enum WordFault {
     /// There is no word.
     #[error("there is no command")]
-    NoCommand { at: usize },
+    NoCommand { at: u32 },
     /// The first word is none of the commands.
     #[error("word {at} is no command")]
-    UnknownCommand { at: usize },
+    UnknownCommand { at: u32 },
     /// The word begins with `-`, and is no option of the command.
     #[error("word {at} is no option of the command")]
-    UnknownOption { at: usize },
+    UnknownOption { at: u32 },
     /// The option was given before.
     #[error("the option in word {at} was given before")]
-    Twice { at: usize },
+    Twice { at: u32 },
     /// The option is the last word and has no value.
     #[error("the option in word {at} has no value")]
-    NoValue { at: usize },
+    NoValue { at: u32 },
     /// The word holds a number that is misspelt or out of its limits.
     #[error("the number in word {at} is misspelt or out of its limits")]
-    BadNumber { at: usize },
+    BadNumber { at: u32 },
     /// The number of files is not the command's.
     #[error("the number of files is not right ({at} words)")]
-    FileCount { at: usize },
+    FileCount { at: u32 },
     /// A scale was given beside a ground text; comes with the option `--scale`.
     #[error("a ground text has its own scale ({at} words)")]
-    ScaleOfGround { at: usize },
+    ScaleOfGround { at: u32 },
     /// An option is missing that the command needs.
     #[error("an option is missing ({at} words)")]
-    Missing { at: usize },
+    Missing { at: u32 },
     /// Memory was refused; it says nothing of the words.
     #[error("memory was refused")]
     NoMemory,
@@ -73,30 +76,30 @@ impl From<NoMemory> for WordFault {
     }
 }
 
-/// Whether a part gives an option.
-fn gives(setting: Setting, part: &Part<'_>) -> bool
-    ensures { result ≡ gives setting (seen part.now) }
+/// Whether an argument gives an option.
+fn gives(setting: Setting, argument: &Argument<'_>) -> bool
+    ensures { result ≡ gives setting (view_of argument.now) }
 {
-    match part {
-        Part::Given { setting: given, .. } => name_of(*given) == name_of(setting),
-        Part::File { .. } | Part::Bare { .. } | Part::Strange { .. } => false,
+    match argument {
+        Argument::Given { setting: given, .. } => name_of(*given) == name_of(setting),
+        Argument::File { .. } | Argument::Bare { .. } | Argument::Strange { .. } => false,
     }
 }
 
-/// Whether some part gives an option.
-fn is_given(parts: &[Part<'_>], setting: Setting) -> bool
-    ensures { result ≡ is_given (map seen parts.now) setting }
+/// Whether some argument gives an option.
+fn is_given(arguments: &[Argument<'_>], setting: Setting) -> bool
+    ensures { result ≡ is_given (map view_of arguments.now) setting }
 {
-    for part in parts {
-        if gives(setting, part) {
+    for argument in arguments {
+        if gives(setting, argument) {
             return true;
         }
     }
     false
 }
 
-fn twice_fault(before: &[Part<'_>], at: usize, setting: Setting) -> Option<WordFault>
-    ensures { result ≡ first_of (twice_faults (map seen before.now) at setting) }
+fn twice_fault(before: &[Argument<'_>], at: u32, setting: Setting) -> Option<WordFault>
+    ensures { result ≡ first_of (twice_faults (map view_of before.now) at setting) }
 {
     if is_given(before, setting) {
         Some(WordFault::Twice { at })
@@ -106,7 +109,7 @@ fn twice_fault(before: &[Part<'_>], at: usize, setting: Setting) -> Option<WordF
 }
 
 /// Whether a value is misspelt or out of the limits of its option.
-fn value_fault(at: usize, setting: Setting, value: &str) -> Option<WordFault>
+fn value_fault(at: u32, setting: Setting, value: &str) -> Option<WordFault>
     ensures { result ≡ first_of (range_faults at (range_of setting) value.now) }
 {
     let (low, high) = range_of(setting)?;
@@ -119,13 +122,14 @@ fn value_fault(at: usize, setting: Setting, value: &str) -> Option<WordFault>
 /// The first fault of an option with a value.
 #[tactic(auto, using(crate::proofs::FirstFaults::first_onto))]
 fn given_fault(
-    before: &[Part<'_>],
-    at: usize,
+    before: &[Argument<'_>],
+    at: u32,
     setting: Setting,
-    value_at: usize,
+    value_at: u32,
     value: &str,
 ) -> Option<WordFault>
-    ensures { result ≡ first_of (twice_faults (map seen before.now) at setting ++ range_faults value_at (range_of setting) value.now) }
+    ensures { result ≡ first_of (twice_faults (map view_of before.now) at setting
+        ++ range_faults value_at (range_of setting) value.now) }
 {
     match twice_fault(before, at, setting) {
         Some(fault) => Some(fault),
@@ -135,8 +139,9 @@ fn given_fault(
 
 /// The first fault of an option without a value.
 #[tactic(auto, using(crate::proofs::FirstFaults::first_onto))]
-fn bare_fault(before: &[Part<'_>], at: usize, setting: Setting) -> Option<WordFault>
-    ensures { result ≡ first_of (twice_faults (map seen before.now) at setting ++ no_value at ∷ []) }
+fn bare_fault(before: &[Argument<'_>], at: u32, setting: Setting) -> Option<WordFault>
+    ensures { result ≡ first_of (twice_faults (map view_of before.now) at setting ++ no_value at
+        ∷ []) }
 {
     match twice_fault(before, at, setting) {
         Some(fault) => Some(fault),
@@ -144,31 +149,31 @@ fn bare_fault(before: &[Part<'_>], at: usize, setting: Setting) -> Option<WordFa
     }
 }
 
-/// The first fault of a part, behind the parts before it.
-fn part_fault(before: &[Part<'_>], part: &Part<'_>) -> Option<WordFault>
-    ensures { result ≡ first_of (part_faults (map seen before.now) (seen part.now)) }
+/// The first fault of an argument, behind the arguments before it.
+fn argument_fault(before: &[Argument<'_>], argument: &Argument<'_>) -> Option<WordFault>
+    ensures { result ≡ first_of (argument_faults (map view_of before.now) (view_of argument.now)) }
 {
-    match part {
-        Part::File { .. } => None,
-        Part::Given {
+    match argument {
+        Argument::File { .. } => None,
+        Argument::Given {
             at,
             setting,
             value_at,
             value,
         } => given_fault(before, *at, *setting, *value_at, value),
-        Part::Bare { at, setting } => bare_fault(before, *at, *setting),
-        Part::Strange { at } => Some(WordFault::UnknownOption { at: *at }),
+        Argument::Bare { at, setting } => bare_fault(before, *at, *setting),
+        Argument::Strange { at } => Some(WordFault::UnknownOption { at: *at }),
     }
 }
 
 /// The first fault of single words.
-fn words_fault(parts: &[Part<'_>]) -> Option<WordFault>
-    ensures { result ≡ first_of (faults_from [] (map seen parts.now)) }
+fn words_fault(arguments: &[Argument<'_>]) -> Option<WordFault>
+    ensures { result ≡ first_of (faults_from [] (map view_of arguments.now)) }
 {
-    for index in 0..parts.len() {
-        let (before, rest) = parts.split_at(index);
-        if let [part, ..] = rest {
-            if let Some(fault) = part_fault(before, part) {
+    for index in 0..arguments.len() {
+        let (before, rest) = arguments.split_at(index);
+        if let [argument, ..] = rest {
+            if let Some(fault) = argument_fault(before, argument) {
                 return Some(fault);
             }
         }
@@ -176,29 +181,39 @@ fn words_fault(parts: &[Part<'_>]) -> Option<WordFault>
     None
 }
 
-/// The names of the files.
-fn files_of(alloc: Global, parts: &[Part<'_>]) -> Result<List<Name>, NoMemory>
-    ensures { IfOk result (λ files. files ≡ files_of (map seen parts.now)) }
+/// The name of the first file.
+fn first_file<'a>(arguments: &[Argument<'a>]) -> Option<&'a str>
+    ensures { option_map (λ t. t.now) result ≡ first_name (files_of (map view_of arguments.now)) }
 {
-    let mut files = List::new(alloc);
-    for part in parts {
-        if let Part::File { name } = part {
-            files.push(Name::of(alloc, name)?)?;
+    for argument in arguments {
+        if let Argument::File { name } = argument {
+            return Some(name);
         }
     }
-    Ok(files)
+    None
+}
+
+/// The name of the file, where there is one file.
+fn only_file<'a>(arguments: &[Argument<'a>]) -> Option<&'a str>
+    ensures { option_map (λ t. t.now) result ≡ only_file (files_of (map view_of arguments.now)) }
+{
+    if file_count(arguments) == 1 {
+        first_file(arguments)
+    } else {
+        None
+    }
 }
 
 /// The value of an option.
-fn value_of<'a>(parts: &[Part<'a>], setting: Setting) -> Option<&'a str>
-    ensures { option_map (λ t. t.now) result ≡ value_of (map seen parts.now) setting }
+fn value_of<'a>(arguments: &[Argument<'a>], setting: Setting) -> Option<&'a str>
+    ensures { option_map (λ t. t.now) result ≡ value_of (map view_of arguments.now) setting }
 {
-    for part in parts {
-        if let Part::Given {
+    for argument in arguments {
+        if let Argument::Given {
             setting: given,
             value,
             ..
-        } = part
+        } = argument
         {
             if name_of(*given) == name_of(setting) {
                 return Some(value);
@@ -223,95 +238,94 @@ fn number_or(low: u64, high: u64, default: u64, value: Option<&str>) -> u64
     }
 }
 
-/// The limits that the parts give.
-fn limits_of(parts: &[Part<'_>]) -> Limits
-    ensures { result ≡ limits_of (map seen parts.now) }
+/// The limits that the arguments give.
+fn limits_of(arguments: &[Argument<'_>]) -> Limits
+    ensures { result ≡ limits_of (map view_of arguments.now) }
 {
     let farthest = 1 << 40;
     Limits {
-        actions: number_or(1, 64, 64, value_of(parts, Setting::Actions)) as u32,
-        horizon: number_or(1, farthest, farthest, value_of(parts, Setting::Horizon)),
+        actions: number_or(1, 64, 64, value_of(arguments, Setting::Actions)) as u32,
+        horizon: number_or(1, farthest, farthest, value_of(arguments, Setting::Horizon)),
         lead: 0,
-        nodes: number_or(1, 200_000, 50_000, value_of(parts, Setting::Nodes)) as u32,
+        nodes: number_or(1, 200_000, 50_000, value_of(arguments, Setting::Nodes)) as u32,
     }
-}
-
-/// The name of the plan file.
-fn plan_of(alloc: Global, parts: &[Part<'_>]) -> Result<Option<Name>, NoMemory>
-    ensures { IfOk result (λ name. name ≡ value_of (map seen parts.now) plan_file) }
-{
-    match value_of(parts, Setting::PlanFile) {
-        Some(name) => Ok(Some(Name::of(alloc, name)?)),
-        None => Ok(None),
-    }
-}
-
-/// Whether an option is missing that the command needs.
-fn is_short(command: Command, parts: &[Part<'_>]) -> bool
-    ensures { result ≡ is_short command (map seen parts.now) }
-{
-    needed_of(command)
-        .iter()
-        .any(|setting| !is_given(parts, *setting))
 }
 
 /// How many files are named.
-fn file_count(parts: &[Part<'_>]) -> usize
-    ensures { result ≡ length (files_of (map seen parts.now)) }
+fn file_count(arguments: &[Argument<'_>]) -> usize
+    ensures { result ≡ length (files_of (map view_of arguments.now)) }
 {
     let mut count = 0;
-    for part in parts {
-        if let Part::File { .. } = part {
+    for argument in arguments {
+        if let Argument::File { .. } = argument {
             count += 1;
         }
     }
     count
 }
 
-/// The first fault of a command's parts, of which there are `count` words.
-#[tactic(auto, using(crate::proofs::FirstFaults::first_onto))]
-fn fault_of(command: Command, count: usize, parts: &[Part<'_>]) -> Option<WordFault>
-    ensures first { result ≡ first_of (faults_of command count (map seen parts.now)) }
-    ensures needed { result ≡ None → is_short command (map seen parts.now) ≡ false }
+/// The order of a command with its one file, and with the plan file that `validate` needs.
+fn order_from(
+    alloc: Global,
+    command: Command,
+    count: u32,
+    file: Option<&str>,
+    plan: Option<&str>,
+    limits: Limits,
+) -> Result<Order, WordFault>
+    ensures { Answers result (order_from command count (option_map (λ t. t.now) file.entry)
+        (option_map (λ t. t.now) plan.entry) limits) }
 {
-    if let Some(fault) = words_fault(parts) {
-        return Some(fault);
+    let Some(file) = file else {
+        return Err(WordFault::FileCount { at: count });
+    };
+    match command {
+        Command::Solve => Ok(Order::Solve {
+            ground: Name::of(alloc, file)?,
+            limits,
+        }),
+        Command::Validate => match plan {
+            Some(plan) => Ok(Order::Validate {
+                ground: Name::of(alloc, file)?,
+                plan: Name::of(alloc, plan)?,
+                limits,
+            }),
+            None => Err(WordFault::Missing { at: count }),
+        },
     }
-    if file_count(parts) != 1 {
-        return Some(WordFault::FileCount { at: count });
-    }
-    if is_short(command, parts) {
-        return Some(WordFault::Missing { at: count });
-    }
-    None
 }
 
-/// The order that parts without a fault say.
-#[tactic(auto, using(crate::proofs::Plans::fits))]
-fn told_of(alloc: Global, command: Command, parts: &[Part<'_>]) -> Result<Order, NoMemory>
-    requires { is_short command (map seen parts.now) ≡ false }
-    ensures order { IfOk result (λ order. order ≡ told_of command (map seen parts.now)) }
-    ensures plan { IfOk result HasPlan }
+/// The order that a command's arguments say, or their first fault; there are `count` words.
+fn judge(
+    alloc: Global,
+    command: Command,
+    count: u32,
+    arguments: &[Argument<'_>],
+) -> Result<Order, WordFault>
+    ensures { Answers result (ordered command count (map view_of arguments.now)) }
 {
-    let files = files_of(alloc, parts)?;
-    let plan = plan_of(alloc, parts)?;
-    Ok(Order {
-        command,
-        files,
-        limits: limits_of(parts),
-        plan,
-    })
+    match words_fault(arguments) {
+        Some(fault) => Err(fault),
+        None => order_from(
+            alloc,
+            command,
+            count,
+            only_file(arguments),
+            value_of(arguments, Setting::PlanFile),
+            limits_of(arguments),
+        ),
+    }
 }
 
-/// Reads the words of a command line behind the program's name: the command, then files and options in any order. An
-/// option stands as `--name`, with the next word for its value, whatever that is, or as `--name=value`. A number is 1
-/// to 13 digits. `solve` takes one file and `--actions` (1 to 64), `--horizon` (1 to 2^40) and `--nodes` (1 to
-/// 200,000); `validate` takes one file, `--plan`, which it needs, `--actions` and `--horizon`. The answer is exactly
-/// what the words say, or their first fault, or want of memory.
+/// Reads the words of a command line behind the program's name: the command, then files and options
+/// in any order. An option stands as `--name`, with the next word for its value, whatever that is,
+/// or as `--name=value`. A number is 1 to 13 digits. `solve` takes one file and `--actions` (1 to
+/// 64), `--horizon` (1 to 2^40) and `--nodes` (1 to 200,000); `validate` takes one file, `--plan`,
+/// which it needs, `--actions` and `--horizon`. The answer is exactly what the words say, or their
+/// first fault, or want of memory.
 pub fn read_words(alloc: Global, words: &[String]) -> Result<Order, WordFault>
-    ensures answer { Answers result (order_of (map string_bytes words.now)) }
-    ensures one { IfOk result (λ order. length order.files ≡ 1) }
-    ensures plan { IfOk result HasPlan }
+    requires { length words.now < 2 ^ 31 }
+    ensures { Answers result (order_of (map string_bytes words.now)) }
 {
     let (command, rest) = match words {
         [] => return Err(WordFault::NoCommand { at: 0 }),
@@ -320,16 +334,14 @@ pub fn read_words(alloc: Global, words: &[String]) -> Result<Order, WordFault>
             None => return Err(WordFault::UnknownCommand { at: 0 }),
         },
     };
-    let parts = parts_of(alloc, command, rest)?;
-    match fault_of(command, words.len(), &parts) {
-        Some(fault) => Err(fault),
-        None => Ok(told_of(alloc, command, &parts)?),
-    }
+    let arguments = arguments_of(alloc, command, rest)?;
+    judge(alloc, command, words.len() as u32, &arguments)
 }
 
 /// The name of a fault and its place; none for want of memory.
-fn name_and_place(fault: WordFault) -> Option<(&'static [u8], usize)>
-    ensures { MatchOption result (fault_text fault ≡ []) (λ x. fault_text fault ≡ named_fault x.0.now x.1) }
+fn name_and_place(fault: WordFault) -> Option<(&'static [u8], u32)>
+    ensures { MatchOption result (fault_text fault ≡ [])
+        (λ x. fault_text fault ≡ named_fault x.0.now x.1) }
 {
     match fault {
         WordFault::NoCommand { at } => Some((b"NoCommand", at)),
@@ -352,7 +364,7 @@ pub fn fault_line(alloc: Global, fault: WordFault) -> Result<Vec<u8>, NoMemory>
     let mut text = Vec::new(alloc);
     if let Some((name, at)) = name_and_place(fault) {
         push_bytes(&mut text, b"refused words ")?;
-        push_number(&mut text, at as u64)?;
+        push_number(&mut text, u64::from(at))?;
         push_bytes(&mut text, b" ")?;
         push_bytes(&mut text, name)?;
         push_bytes(&mut text, b"\n")?;

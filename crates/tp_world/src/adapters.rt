@@ -1,4 +1,4 @@
-//! Adapters of the real thing. What the system holds they don't say, so no clause speaks of it.
+//! Adapters of the real thing. They do not say what the system holds, so no clause speaks of it.
 ghost use Rattle.std.specs.Prelude.{◌≡◌, ◌*◌, ◌/◌, ◌-◌, ◌^◌, min, [], None};
 ghost use Rattle.std.specs.Duration.{as_nanos};
 
@@ -189,7 +189,7 @@ impl<R: SystemClock> Clock for ElapsedClock<R> {
     }
 }
 
-/// The time since a moment, where the system told that moment and tells this one.
+/// The time since a moment, where the system gave that moment and gives this one.
 fn since(rt: &impl SystemClock, began: Option<Instant>) -> Option<Duration> {
     began?.elapsed(rt).ok()
 }

@@ -1,49 +1,33 @@
-use Rattle.std.proofs.Common.{ℕ, List, subst, sym, ap, ◌∙◌}
-use Rattle.std.specs.Io.KnownBytes.{Appends}
+use Rattle.std.proofs.Common.{◌≡◌, ◌⊎◌, ◌∙◌, ◌++◌, ◌∷◌, [], ap, subst, List, rules}
 use Rattle.tp_spec.specs.declared.event.Event.{Event}
 use Rattle.tp_spec.specs.declared.problem.Problem.{Problem}
-use Rattle.tp_spec.specs.Texts.{result_text}
-use Rattle.tp_world.specs.Sinks.{AppendsFront}
-use Rattle.run_cli.specs.Outcomes.{EndsAs, HasResult}
-use Rattle.run_cli.proofs.Solved.{busy-of, prints-result, whole-of, searched-of}
+use Rattle.run_cli.specs.Outcomes.{PrintsResult}
+use Rattle.run_cli.specs.Printing.{PrintsNothing}
+use Rattle.run_cli.proofs.Solved.{unmade, search-ends}
+use Rattle.run_cli.proofs.Stopping.{unput}
 use Rattle.run_cli.proofs.solving.solve.Goals as goal
 
-pub returns-clause-solved : goal.returns-clause-solved
-returns-clause-solved g c below =
-    let h = c.into_parts-history.result.0.items in
-    let p = c.args.problem.now in
-    let whole = whole-of g.C.Clock.count g.C.Clock.last g.C.Clock.given p c.args.limits c.args.clock c.begin.new.self c.into_parts-history.result.1 c.in-Ok.tree c.search.new.tree h
-    c.in-Ok.ensures.problem c.in-Ok.ensures.limits c.in-Ok.ensures.opened c.search.ensures.charter c.into_parts-history.ensures.history c.into_parts-history.ensures.clock c.into_parts-history.ensures.whole in
-    let searched = searched-of g.C.Clock.count g.C.Clock.last g.C.Clock.given p c.args.limits c.args.clock c.begin.new.self c.into_parts-history.result.1 c.in-Ok.tree c.search.new.tree h
-    c.in-Ok.ensures.problem c.in-Ok.ensures.limits c.in-Ok.ensures.opened c.search.ensures.charter c.into_parts-history.ensures.history c.into_parts-history.ensures.clock c.search.ensures.searched in
-    let ends : EndsAs h c.print_result-status.result = subst (λ (x : List Event). EndsAs x c.print_result-status.result) c.deref.ensures.value (c.print_result-status.ensures.ends below) in record {
-      solution = record {
-        whole = whole;
-        ends = ends;
-        busy = busy-of c.args.limits h c.print_result-status.result searched ends below;
-        rated = c.into_parts-history.ensures.rate ∙ ap (λ (q : Problem). q.scale) (sym c.search.ensures.charter.problem ∙ c.in-Ok.ensures.problem);
-      };
-      printed = subst (λ (text : List ℕ). Appends (g.O.Sink.held c.args.out.now) (g.O.Sink.held c.print_result-status.new.out) text) (prints-result p c.args.limits h whole.run)
-          (subst (λ (x : List Event). Appends (g.O.Sink.held c.args.out.now) (g.O.Sink.held c.print_result-status.new.out) (result_text p x)) c.deref.ensures.value (c.print_result-status.ensures.printed below));
-    }
+pub returns-in-Err-clause-ends : goal.returns-in-Err-clause-ends
+returns-in-Err-clause-ends g c =
+    let begins = c.begin.ensures.begun ∙ ap (λ (q : Problem). g.C.Clock.begun c.args.clock ++ q.scale ∷ []) c.problem.view_is in
+    let rates = c.begin.ensures.rate ∙ ap (λ (q : Problem). q.scale) c.problem.view_is in
+    let same : c.unsearched.result.clock ≡ c.begin.new.self = search rules in
+    unmade g.C.Clock.count g.C.Clock.last g.C.Clock.rate g.C.Clock.given g.C.Clock.begun c.args.problem.now c.args.limits c.args.clock c.begin.new.self
+    c.begin.ensures.count c.begin.ensures.last c.begin.ensures.given begins rates
+    (g.O.Sink.view c.args.out.now) (g.O.Sink.view c.args.out.now) c.unsearched.result.status c.unsearched.result.history.items c.unsearched.result.clock
+    same c.unsearched.ensures.history (unput (g.O.Sink.view c.args.out.now) c.unsearched.result.status c.unsearched.ensures.status)
 
-pub returns-clause-cut_off : goal.returns-clause-cut_off
-returns-clause-cut_off g c six =
-    let h = c.into_parts-history.result.0.items in
-    let p = c.args.problem.now in
-    let whole = whole-of g.C.Clock.count g.C.Clock.last g.C.Clock.given p c.args.limits c.args.clock c.begin.new.self c.into_parts-history.result.1 c.in-Ok.tree c.search.new.tree h
-    c.in-Ok.ensures.problem c.in-Ok.ensures.limits c.in-Ok.ensures.opened c.search.ensures.charter c.into_parts-history.ensures.history c.into_parts-history.ensures.clock c.into_parts-history.ensures.whole in
-    let searched = searched-of g.C.Clock.count g.C.Clock.last g.C.Clock.given p c.args.limits c.args.clock c.begin.new.self c.into_parts-history.result.1 c.in-Ok.tree c.search.new.tree h
-    c.in-Ok.ensures.problem c.in-Ok.ensures.limits c.in-Ok.ensures.opened c.search.ensures.charter c.into_parts-history.ensures.history c.into_parts-history.ensures.clock c.search.ensures.searched in
-    let stands : HasResult h = subst (λ (x : List Event). HasResult x) c.deref.ensures.value (c.print_result-status.ensures.result_stands six) in record {
-      status = stands.status;
-      below = stands.below;
-      solution = record {
-        whole = whole;
-        ends = stands.ends;
-        busy = busy-of c.args.limits h stands.status searched stands.ends stands.below;
-        rated = c.into_parts-history.ensures.rate ∙ ap (λ (q : Problem). q.scale) (sym c.search.ensures.charter.problem ∙ c.in-Ok.ensures.problem);
-      };
-      printed = subst (λ (text : List ℕ). AppendsFront (g.O.Sink.held c.args.out.now) (g.O.Sink.held c.print_result-status.new.out) text) (prints-result p c.args.limits h whole.run)
-          (subst (λ (x : List Event). AppendsFront (g.O.Sink.held c.args.out.now) (g.O.Sink.held c.print_result-status.new.out) (result_text p x)) c.deref.ensures.value (c.print_result-status.ensures.front six));
-    }
+pub returns-clause-ends : goal.returns-clause-ends
+returns-clause-ends g c =
+    let begins = c.begin.ensures.begun ∙ ap (λ (q : Problem). g.C.Clock.begun c.args.clock ++ q.scale ∷ []) c.problem.view_is in
+    let rates = c.begin.ensures.rate ∙ ap (λ (q : Problem). q.scale) c.problem.view_is in
+    let before = g.O.Sink.view c.args.out.now in
+    let after = g.O.Sink.view c.print_result-status.new.out in
+    let printed = subst (λ (h : List Event). PrintsResult c.args.problem.now h before after c.print_result-status.result ⊎ PrintsNothing before after c.print_result-status.result)
+    c.deref.ensures.value c.print_result-status.ensures in
+    search-ends g.C.Clock.count g.C.Clock.last g.C.Clock.rate g.C.Clock.given g.C.Clock.begun c.args.problem.now c.args.limits c.args.clock c.begin.new.self
+    c.begin.ensures.count c.begin.ensures.last c.begin.ensures.given begins rates
+    c.in-Ok.tree c.search.new.tree c.into_parts-history.result.0.items c.into_parts-history.result.1
+    c.in-Ok.ensures.problem c.in-Ok.ensures.limits c.in-Ok.ensures.opened c.search.ensures.charter c.into_parts-history.ensures.history c.into_parts-history.ensures.clock
+    c.into_parts-history.ensures.whole c.into_parts-history.ensures.rate c.into_parts-history.ensures.begun c.into_parts-history.ensures.given c.into_parts-history.ensures.clocked
+    c.search.ensures.searched before after c.print_result-status.result printed

@@ -1,7 +1,7 @@
 use Rattle.std.proofs.Common.{◌≡◌, map, drop}
-use Rattle.run_cli.specs.Parts.{seen}
+use Rattle.run_cli.specs.Arguments.{view_of}
 use Rattle.run_cli.specs.Orders.{is_given}
 use Rattle.run_cli.proofs.words.is_given.Given as goal
 
-abbrev pub invariant-loop-part : goal.invariant-loop-part
-invariant-loop-part l = is_given (map seen (drop l.part-index l.parts)) l.setting ≡ is_given (map seen l.parts) l.setting
+abbrev pub invariant-loop-argument : goal.invariant-loop-argument
+invariant-loop-argument l = is_given (map view_of (drop l.argument-index l.arguments)) l.setting ≡ is_given (map view_of l.arguments) l.setting
