@@ -34,7 +34,8 @@ fn plan_answer(
     bytes: &[u8],
 ) -> Result<Answer, NoMemory>
     requires { length bytes.now ≤ 1048576 }
-    ensures { IfOk result (λ a. IsPlanAnswer problem.now limits.now bytes.now a.status a.line.items) }
+    ensures { IfOk result
+        (λ a. IsPlanAnswer problem.now limits.now bytes.now a.status a.line.items) }
 {
     match read_plan(alloc, problem, bytes) {
         Ok(plan) => {
