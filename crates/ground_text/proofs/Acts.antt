@@ -12,9 +12,9 @@ use Rattle.tp_spec.specs.declared.problem.Effect.{Effect}
 use Rattle.tp_spec.specs.declared.problem.Kind.{Kind}
 use Rattle.tp_spec.specs.declared.problem.Kind.TheVariants.{Instant, Durative}
 use Rattle.ground_text.specs.Texts.{cond_text, effect_text, body_text, action_text}
-use Rattle.ground_text.specs.Kept.{is_kept_action}
+use Rattle.ground_text.proofs.Kept.{is_kept_action}
 use Rattle.ground_text.specs.Reading.{first_is, number_at, name_at, conds_at, effects_at, instant_at, durative_at, action_at, repeated_at, counted_at}
-use Rattle.ground_text.specs.Faults.{lines}
+use Rattle.line_text.specs.Lines.{lines}
 use Rattle.ground_text.specs.Completion.{name_or_bangs, kind_or_instant, bangs, filled_action, filled_actions}
 use Rattle.ground_text.proofs.Numbers.{number_again}
 use Rattle.ground_text.proofs.Members.{words_plain, name_again}

@@ -14,7 +14,8 @@ use Rattle.tp_spec.specs.declared.problem.Kind.{Kind}
 use Rattle.tp_spec.specs.declared.problem.Kind.TheVariants.{Instant, Durative}
 use Rattle.tp_spec.specs.declared.problem.TimedItem.{TimedItem}
 use Rattle.ground_text.specs.Texts.{listed, cond_text, effect_text, value_text, name_text, body_text, action_text, merged, timed_text, counted, header_text, problem_text}
-use Rattle.ground_text.specs.Kept.{is_kept_cond, is_kept_effect, is_kept_action, is_kept_value, IsProblem}
+use Rattle.tp_spec.specs.WellFormed.{is_value}
+use Rattle.ground_text.proofs.Kept.{is_kept_cond, is_kept_effect, is_kept_action, IsProblem}
 use Rattle.ground_text.specs.Reading.{first_is, number_at, index_at, name_at, cond_at, effect_at, value_at, conds_at, effects_at, indices_at, values_at, instant_at, durative_at, action_at, added, deleted, timed_at, counted_at, parts_at}
 use Rattle.ground_text.proofs.Numbers.{number_again, index_again, value_again}
 use Rattle.ground_text.proofs.Members.{name_again, name_line_again, listed_ends, members_again, counted_again}
@@ -233,9 +234,9 @@ indices_again f small xs rest h =
       within : (x : ℕ) → nat_lt x f ≡ true → x < 2 ^ 32
       within x below = let lt = ltb-true x f below in omega arith
 
-values_again : (xs : List (Option ℤ)) (rest : List ℕ) → list_all is_kept_value xs ≡ true → values_at (listed value_text xs ++ (10 ∷ rest)) ≡ (xs, 10 ∷ rest)
+values_again : (xs : List (Option ℤ)) (rest : List ℕ) → list_all is_value xs ≡ true → values_at (listed value_text xs ++ (10 ∷ rest)) ≡ (xs, 10 ∷ rest)
 unfolding values_at
-values_again xs rest h = members_again value_at value_text is_kept_value (λ x r kept ends. value_again x r kept ends) xs (10 ∷ rest) h refl refl
+values_again xs rest h = members_again value_at value_text is_value (λ x r kept ends. value_again x r kept ends) xs (10 ∷ rest) h refl refl
 
 scale_small : (s : ℕ) → (s == 1 || s == 10 || s == 100 || s == 1000) ≡ true → s < 2 ^ 32
 scale_small s h = grind (arith, nat_tests)

@@ -4,7 +4,7 @@ use Rattle.std.specs.Prelude.{decimal}
 use Rattle.std.specs.List.{list_all, flat_map}
 use Rattle.ground_text.specs.Texts.{counted}
 use Rattle.ground_text.specs.Reading.{number_at, repeated_at, counted_at}
-use Rattle.ground_text.specs.Faults.{lines}
+use Rattle.line_text.specs.Lines.{lines}
 use Rattle.ground_text.proofs.Numbers.{number_again}
 use Rattle.ground_text.proofs.Cuts.{is_inside, line_first, decimal_inside}
 use Rattle.ground_text.proofs.Picks.{Word, joined_inside}

@@ -16,7 +16,7 @@ use Rattle.tp_spec.specs.Lists.{each_next}
 use Rattle.tp_spec.specs.WellFormed.{is_name, are_words, name_before}
 use Rattle.ground_text.specs.Texts.{name_text}
 use Rattle.ground_text.specs.Reading.{name_at, repeated_at}
-use Rattle.ground_text.specs.Faults.{lines}
+use Rattle.line_text.specs.Lines.{lines}
 use Rattle.ground_text.specs.Completion.{name_or_next, filled}
 use Rattle.ground_text.proofs.Members.{is_plain, words_plain, name_again}
 

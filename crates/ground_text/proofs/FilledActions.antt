@@ -9,7 +9,7 @@ use Rattle.tp_spec.specs.WellFormed.{is_name, are_words, is_cond, are_effects, i
 use Rattle.tp_spec.specs.declared.problem.Action.{Action}
 use Rattle.tp_spec.specs.declared.problem.Kind.{Kind}
 use Rattle.tp_spec.specs.declared.problem.Kind.TheVariants.{Instant, Durative}
-use Rattle.ground_text.specs.Kept.{is_kept_cond, is_kept_effect, is_kept_action}
+use Rattle.ground_text.proofs.Kept.{is_kept_cond, is_kept_effect, is_kept_action}
 use Rattle.ground_text.specs.Completion.{bang_name, bangs, name_or_bangs, filled_action, filled_actions}
 use Rattle.ground_text.proofs.Picks.{pick}
 use Rattle.ground_text.proofs.Acts.{action_lines, cut_body, cut_action, cut_actions, cut_action_section, cut_name, kept_kind, kept_action_name, filled_actions_length}

@@ -6,13 +6,13 @@ use Rattle.std.proofs.lemmas.Bool.{false≢true, and_parts, le-leb, lt-leb}
 use Rattle.std.proofs.lemmas.List.{take-append-drop, take-append-le, take_min, take_all}
 use Rattle.tp_spec.specs.Lists.{each_next, each_pair}
 use Rattle.tp_spec.specs.WellFormed.{Ground, is_name, name_before}
-use Rattle.ground_text.specs.Faults.{lines, has_lines}
+use Rattle.line_text.specs.Lines.{lines, has_lines}
 use Rattle.ground_text.specs.Completion.{name_or_next, filled}
 use Rattle.ground_text.specs.Filling.{rise_from, filled_ground}
-use Rattle.ground_text.specs.Parts.{ground_of}
-use Rattle.ground_text.specs.Tests.{are_few_names, are_actions, are_timed, are_init, is_goal, items_hold, states_hold}
+use Rattle.problem_rules.specs.Parts.{ground_of}
+use Rattle.problem_rules.specs.Tests.{are_few_names, are_actions, are_timed, are_init, is_goal, items_hold, states_hold, ranges_hold}
 use Rattle.ground_text.specs.Texts.{listed, cond_text, value_text, name_text, action_text, timed_text, counted, header_text, problem_text}
-use Rattle.ground_text.specs.declared.sections.Parts.{Parts}
+use Rattle.problem_rules.specs.declared.parts.Parts.{Parts}
 use Rattle.ground_text.proofs.Cuts.{next_words, before_next}
 
 -- ---- the first bytes of a text
@@ -222,3 +222,6 @@ few_all most (x ∷ names) name shown first bytes text is some few a k f l one v
     let left : suc (length names) - 1 ≡ length names = omega arith in
     few_rise most x names first is few (f ∙ ap (name_or_next []) (k ∙ a)) (ap is_name (sym l) ∙ one)
     (rises ∙ ap (λ (t : List ℕ). rise_from t (filled t (take (suc (length names) - 1) names))) v ∙ ap (λ (xs : List (List ℕ)). rise_from first (filled first xs)) (take_all (suc (length names) - 1) names (omega (arith, left))))
+
+pub ranges_same : (p : Parts) → ranges_hold (ground_of p) ≡ ranges_hold (filled_ground p)
+ranges_same p = refl

@@ -8,10 +8,10 @@ use Rattle.tp_spec.specs.WellFormed.{Ground, is_timed}
 use Rattle.tp_spec.specs.declared.problem.Action.{Action}
 use Rattle.tp_spec.specs.declared.problem.TimedItem.{TimedItem}
 use Rattle.ground_text.specs.Texts.{name_text, action_text, timed_text, header_text, problem_text}
-use Rattle.ground_text.specs.Kept.{IsProblem}
+use Rattle.ground_text.proofs.Kept.{IsProblem}
 use Rattle.ground_text.specs.Reading.{number_at, index_at, name_at, action_at, timed_at, indices_at, values_at, conds_at, counted_at, parts_at}
-use Rattle.ground_text.specs.Tests.{are_actions, are_timed}
-use Rattle.ground_text.specs.Faults.{lines}
+use Rattle.problem_rules.specs.Tests.{are_actions, are_timed}
+use Rattle.line_text.specs.Lines.{lines}
 use Rattle.ground_text.specs.Completion.{filled, filled_actions, filled_timed, scale_or_one, completed}
 use Rattle.ground_text.proofs.Numbers.{index_again}
 use Rattle.ground_text.proofs.Blocks.{both_hold, good_timed}
@@ -211,8 +211,10 @@ front_is p n is =
         acting = acting_test _ _ _ acts;
         told_apart = acts.told_apart;
         timing = timing_test _ _ times;
+        ticks_fit = times.fit;
         starting = starting_holds (behind_timed p n) _ (length p.facts) p.init (λ lt. facts (omega arith)) w.starting;
         valued = valued_holds (behind_timed p n - 1) _ (length p.fluents) _ p.values (cut_long (behind_facts p n) p.fluents) (λ lt. fluents (omega arith)) w.valued;
+        values_fit = values_kept (behind_timed p n - 1) _ p.values is.kept_values;
         aiming = aiming_holds (behind_timed p n - 1 - 1) _ (length p.facts) _ (length p.fluents) p.goal (λ lt. facts (omega arith)) (λ lt. fluents (omega arith)) w.aiming;
       };
       kept_actions = acts.kept;

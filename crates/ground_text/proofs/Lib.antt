@@ -4,11 +4,8 @@ pub mod Members
 pub mod Words
 pub mod Blocks
 pub mod Merging
-pub mod Regroup
-pub mod Tested
 pub mod LinesLen
 pub mod Filled
-pub mod KeptRead
 pub mod Cuts
 pub mod Picks
 pub mod Counts
@@ -20,3 +17,4 @@ pub mod Tail
 pub mod Fronts
 pub mod Told
 pub mod FilledNames
+pub mod Kept

@@ -2,7 +2,7 @@
 use Rattle.std.proofs.Common.{◌≡◌, ℕ, zero, suc, ◌+◌, ◌-◌, Bool, true, false, List, [], ◌∷◌, take, refl, sym, ap, ◌∙◌, arith}
 use Rattle.std.specs.Prelude.{◌==◌}
 use Rattle.std.proofs.lemmas.Bool.Decides.{nat_tests}
-use Rattle.ground_text.specs.Faults.{lines, has_lines}
+use Rattle.line_text.specs.Lines.{lines, has_lines}
 use Rattle.ground_text.specs.Completion.{lines_len, lines_stand}
 
 some_left : (n : ℕ) → (suc n == 0) ≡ false

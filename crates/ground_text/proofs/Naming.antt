@@ -7,7 +7,7 @@ use Rattle.tp_spec.specs.Lists.{each_next}
 use Rattle.tp_spec.specs.WellFormed.{is_name, name_before}
 use Rattle.ground_text.specs.Texts.{name_text}
 use Rattle.ground_text.specs.Reading.{name_at, counted_at}
-use Rattle.ground_text.specs.Faults.{lines}
+use Rattle.line_text.specs.Lines.{lines}
 use Rattle.ground_text.specs.Completion.{filled}
 use Rattle.ground_text.proofs.Cuts.{is_inside, cut, names_cut, filled_length, filled_names, names_same}
 use Rattle.ground_text.proofs.Picks.{Word}

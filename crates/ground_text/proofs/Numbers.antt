@@ -6,7 +6,7 @@ use Rattle.std.proofs.lemmas.Fmt.{decimal_by_steps}
 use Rattle.std.proofs.lemmas.Bool.{false≢true, false_from_ne_true, eqb-true, and_parts, lt-ltb, le-ltb, leb-true, cases_lt}
 use Rattle.std.proofs.lemmas.Bool.Decides.{nat_tests}
 use Rattle.ground_text.specs.Texts.{value_text}
-use Rattle.ground_text.specs.Kept.{is_i64, is_kept_value}
+use Rattle.tp_spec.specs.WellFormed.{is_i64, is_value}
 use Rattle.ground_text.specs.Reading.{is_digit, within, narrow, signed_of, first_is, number_from, number_at, index_at, integer_at, value_at, begins_with_digit}
 
 digit_is : (d : ℕ) → d < 10 → is_digit (48 + d) ≡ true
@@ -104,7 +104,7 @@ index_again n rest fits ends =
       narrow_is : (n : ℕ) → n < 2 ^ 32 → narrow n ≡ n
       narrow_is n fits = omega arith
 
-pub value_again : (v : Option ℤ) (rest : List ℕ) → is_kept_value v ≡ true → begins_with_digit rest ≡ false → value_at (value_text v ++ rest) ≡ (v, rest)
+pub value_again : (v : Option ℤ) (rest : List ℕ) → is_value v ≡ true → begins_with_digit rest ≡ false → value_at (value_text v ++ rest) ≡ (v, rest)
 unfolding value_at
 value_again None rest kept ends = rw ends refl
 value_again (Some (pos n)) rest kept ends =

@@ -5,7 +5,7 @@ use Rattle.std.specs.List.{list_all}
 use Rattle.std.specs.Fmt.{signed_decimal}
 use Rattle.std.proofs.lemmas.Bool.{and_parts, and_from, ltb-true, leb-true}
 use Rattle.std.proofs.lemmas.List.Folds.{list_all-append}
-use Rattle.tp_spec.specs.WellFormed.{names_below_at, is_expr, is_cond, is_effect}
+use Rattle.tp_spec.specs.WellFormed.{is_expr_at, is_expr, is_cond, is_effect}
 use Rattle.tp_spec.specs.declared.expr.Expr.{Expr, roll-Expr, map-Expr, fold-Expr}
 use Rattle.tp_spec.specs.declared.expr.Expr.TheOpen.{Expr-F}
 use Rattle.tp_spec.specs.declared.expr.Expr.TheFolds.{ind-Expr, fold-roll-Expr}
@@ -17,9 +17,10 @@ use Rattle.tp_spec.specs.declared.problem.How.TheVariants.{Increase, Decrease, A
 use Rattle.tp_spec.specs.declared.problem.Op.{Op}
 use Rattle.tp_spec.specs.declared.problem.Op.TheVariants.{Less, LessEq, Equal, MoreEq, More}
 use Rattle.ground_text.specs.Texts.{listed, expr_text, expr_text_at, op_text, cond_text, effect_text, value_text}
-use Rattle.ground_text.specs.Kept.{is_i64, is_kept_at, is_kept_expr, is_kept_cond, is_kept_effect, is_kept_value}
+use Rattle.tp_spec.specs.WellFormed.{is_i64, is_value}
+use Rattle.ground_text.proofs.Kept.{is_kept_at, is_kept_expr, is_kept_cond, is_kept_effect}
 use Rattle.ground_text.specs.Reading.{index_at, cond_at, effect_at, value_at, members_at, conds_at, effects_at, indices_at, values_at}
-use Rattle.ground_text.specs.Faults.{lines}
+use Rattle.line_text.specs.Lines.{lines}
 use Rattle.ground_text.proofs.Numbers.{index_again, value_again}
 use Rattle.ground_text.proofs.Members.{Again, members_again}
 use Rattle.ground_text.proofs.Words.{good_cond, good_effect, cond_again, effect_again}
@@ -63,7 +64,7 @@ integer_inside (negsuc n) kept = decimal_inside (suc n) (below n kept) where
   below : (n : ℕ) → is_i64 (negsuc n) ≡ true → suc n < 2 ^ 64
   below n kept = omega (arith, leb-true n (2 ^ 63 - 1) (and_parts _ _ kept).0)
 
-value_inside : Inside value_text is_kept_value
+value_inside : Inside value_text is_value
 value_inside None kept = refl
 value_inside (Some z) kept = integer_inside z kept
 
@@ -77,7 +78,7 @@ both_inside left right h k = joined_inside left (32 ∷ (right ++ (41 ∷ []))) 
 
 module _ (n : ℕ) (few : n ≤ 256) where
   abbrev InLine : Expr → Type 0
-  InLine e = fold-Expr Bool (names_below_at n) e ≡ true → is_kept_expr e ≡ true → list_all is_inside (expr_text e) ≡ true
+  InLine e = fold-Expr Bool (is_expr_at n) e ≡ true → is_kept_expr e ≡ true → list_all is_inside (expr_text e) ≡ true
 
   abbrev Part : Type 0
   Part = (e : Expr) × InLine e
@@ -90,11 +91,11 @@ module _ (n : ℕ) (few : n ≤ 256) where
       ap (list_all is_inside) text ∙ integer_inside z fits
   by_layer (Expr-F.Fluent x) below kept =
       let text = fold-roll-Expr (List ℕ) expr_text_at (Expr-F.Fluent x) in
-      let fits = sym (fold-roll-Expr Bool (names_below_at n) (Expr-F.Fluent x)) ∙ below in
+      let fits = sym (fold-roll-Expr Bool (is_expr_at n) (Expr-F.Fluent x)) ∙ below in
       ap (list_all is_inside) text ∙ index_inside n (omega arith) x fits
   by_layer (Expr-F.Sum a b) below kept =
       let text = fold-roll-Expr (List ℕ) expr_text_at (Expr-F.Sum a.0 b.0) in
-      let named = and_parts _ _ (sym (fold-roll-Expr Bool (names_below_at n) (Expr-F.Sum a.0 b.0)) ∙ below) in
+      let named = and_parts _ _ (sym (fold-roll-Expr Bool (is_expr_at n) (Expr-F.Sum a.0 b.0)) ∙ below) in
       let fits = and_parts _ _ (sym (fold-roll-Expr Bool is_kept_at (Expr-F.Sum a.0 b.0)) ∙ kept) in
       let left = expr_text a.0 in
       let right = expr_text b.0 in
@@ -102,7 +103,7 @@ module _ (n : ℕ) (few : n ≤ 256) where
       ap (list_all is_inside) (text ∙ shape) ∙ both_inside left right (a.1 named.0 fits.0) (b.1 named.1 fits.1)
   by_layer (Expr-F.Difference a b) below kept =
       let text = fold-roll-Expr (List ℕ) expr_text_at (Expr-F.Difference a.0 b.0) in
-      let named = and_parts _ _ (sym (fold-roll-Expr Bool (names_below_at n) (Expr-F.Difference a.0 b.0)) ∙ below) in
+      let named = and_parts _ _ (sym (fold-roll-Expr Bool (is_expr_at n) (Expr-F.Difference a.0 b.0)) ∙ below) in
       let fits = and_parts _ _ (sym (fold-roll-Expr Bool is_kept_at (Expr-F.Difference a.0 b.0)) ∙ kept) in
       let left = expr_text a.0 in
       let right = expr_text b.0 in
@@ -253,13 +254,13 @@ module _ (f : ℕ) (small : f ≤ 4096) where
       → lines k (members_line decimal word (pick k xs) other) ≡ lines k (members_line decimal word xs rest)
   indices_same word k xs rest other plain h e = members_same decimal (λ x. nat_lt x f) (index_inside f small) word k xs rest other plain h e
 
-pub values_cut : (word : List ℕ) (skipped j : ℕ) (xs : List (Option ℤ)) (rest : List ℕ) → Word word skipped → list_all is_kept_value xs ≡ true
+pub values_cut : (word : List ℕ) (skipped j : ℕ) (xs : List (Option ℤ)) (rest : List ℕ) → Word word skipped → list_all is_value xs ≡ true
     → values_at (drop (suc skipped) (line_end j (members_line value_text word xs rest))) ≡ (pick (j - 1) xs, line_end (j - 1) rest)
 unfolding values_at
 values_cut word skipped j xs rest w h =
-    members_cut value_at value_text is_kept_value (λ x r kept ends. value_again x r kept ends) value_inside word skipped j xs rest w h _ refl
+    members_cut value_at value_text is_value (λ x r kept ends. value_again x r kept ends) value_inside word skipped j xs rest w h _ refl
 
-pub values_same : (word : List ℕ) (k : ℕ) (xs : List (Option ℤ)) (rest other : List ℕ) → list_all is_inside word ≡ true → list_all is_kept_value xs ≡ true
+pub values_same : (word : List ℕ) (k : ℕ) (xs : List (Option ℤ)) (rest other : List ℕ) → list_all is_inside word ≡ true → list_all is_value xs ≡ true
     → lines (k - 1) other ≡ lines (k - 1) rest
     → lines k (members_line value_text word (pick k xs) other) ≡ lines k (members_line value_text word xs rest)
-values_same word k xs rest other plain h e = members_same value_text is_kept_value value_inside word k xs rest other plain h e
+values_same word k xs rest other plain h e = members_same value_text is_value value_inside word k xs rest other plain h e

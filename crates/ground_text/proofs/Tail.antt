@@ -6,10 +6,11 @@ use Rattle.tp_spec.specs.WellFormed.{is_cond}
 use Rattle.tp_spec.specs.declared.list.Name.{Name}
 use Rattle.tp_spec.specs.declared.problem.Cond.{Cond}
 use Rattle.ground_text.specs.Texts.{cond_text, value_text}
-use Rattle.ground_text.specs.Kept.{is_kept_cond, is_kept_value}
+use Rattle.tp_spec.specs.WellFormed.{is_value}
+use Rattle.ground_text.proofs.Kept.{is_kept_cond}
 use Rattle.ground_text.specs.Reading.{indices_at}
-use Rattle.ground_text.specs.Tests.{are_init, is_goal}
-use Rattle.ground_text.specs.Faults.{lines}
+use Rattle.problem_rules.specs.Tests.{are_init, is_goal}
+use Rattle.line_text.specs.Lines.{lines}
 use Rattle.ground_text.specs.Completion.{filled_values}
 use Rattle.ground_text.proofs.Picks.{pick, line_end, members_line, indices_cut, indices_same, values_same, conds_same}
 
@@ -37,7 +38,7 @@ module _ (f : ℕ) (small : f ≤ 4096) where
   -- ---- the lines of what is filled in
 
   pub last_same : (n : ℕ) → n ≤ 256 → (names : List Name) (k : ℕ) (init : List ℕ) (values : List (Option ℤ)) (goal : List Cond)
-      → list_all (λ x. nat_lt x f) init ≡ true → length names ≤ length values → list_all is_kept_value values ≡ true
+      → list_all (λ x. nat_lt x f) init ≡ true → length names ≤ length values → list_all is_value values ≡ true
       → list_all (is_cond f n) goal ≡ true → list_all is_kept_cond goal ≡ true
       → lines k (init_line (pick k init) (filled_values names (pick (k - 1) values)) (pick (k - 1 - 1) goal)) ≡ lines k (init_line init values goal)
   last_same n few names k init values goal starting many kept aiming kept_goal =
@@ -81,7 +82,7 @@ none_long : (names : List Name) → length (map {B = Option ℤ} (λ name. None)
 none_long [] = refl
 none_long (name ∷ names) = ap suc (none_long names)
 
-none_kept : (names : List Name) → list_all is_kept_value (map (λ name. None) names) ≡ true
+none_kept : (names : List Name) → list_all is_value (map (λ name. None) names) ≡ true
 none_kept [] = refl
 none_kept (name ∷ names) = none_kept names
 
@@ -90,7 +91,7 @@ valued_holds zero n fluents names values named as_many long = none_long names �
 valued_holds (suc k) n fluents names [] named as_many long = none_long names ∙ named
 valued_holds (suc k) n fluents names (value ∷ values) named as_many long = long ∙ sym (as_many (omega arith))
 
-pub values_kept : (k : ℕ) (names : List Name) (values : List (Option ℤ)) → list_all is_kept_value values ≡ true → list_all is_kept_value (filled_values names (pick k values)) ≡ true
+pub values_kept : (k : ℕ) (names : List Name) (values : List (Option ℤ)) → list_all is_value values ≡ true → list_all is_value (filled_values names (pick k values)) ≡ true
 values_kept zero names values h = none_kept names
 values_kept (suc k) names [] h = none_kept names
 values_kept (suc k) names (value ∷ values) h = h

@@ -8,7 +8,7 @@ use Rattle.tp_spec.specs.WellFormed.{is_timed}
 use Rattle.tp_spec.specs.declared.problem.TimedItem.{TimedItem}
 use Rattle.ground_text.specs.Texts.{listed, effect_text, merged, timed_text}
 use Rattle.ground_text.specs.Reading.{number_at, effects_at, timed_at, repeated_at, counted_at}
-use Rattle.ground_text.specs.Faults.{lines}
+use Rattle.line_text.specs.Lines.{lines}
 use Rattle.ground_text.specs.Completion.{filled_item, filled_timed}
 use Rattle.ground_text.proofs.Words.{good_effect}
 use Rattle.ground_text.proofs.Blocks.{good_merged, good_timed, timed_again}

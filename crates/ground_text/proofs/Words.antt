@@ -2,7 +2,7 @@
 use Rattle.std.proofs.Common.{◌≡◌, ℕ, zero, suc, ◌≤◌, ◌<◌, Bool, true, false, ◌&&◌, List, [], ◌∷◌, ◌++◌, drop, refl, sym, ap, subst, ◌∙◌, append_assoc, arith}
 use Rattle.std.specs.Prelude.{decimal, codes, nat_lt}
 use Rattle.std.proofs.lemmas.Bool.{and_parts, ltb-true, leb-true}
-use Rattle.tp_spec.specs.WellFormed.{depth, depth_at, names_below_at, is_expr, is_cond, is_effect}
+use Rattle.tp_spec.specs.WellFormed.{depth, depth_at, is_expr_at, is_expr, is_cond, is_effect}
 use Rattle.tp_spec.specs.declared.expr.Expr.{Expr, roll-Expr, map-Expr, fold-Expr}
 use Rattle.tp_spec.specs.declared.expr.Expr.TheOpen.{Expr-F}
 use Rattle.tp_spec.specs.declared.expr.Expr.TheFolds.{ind-Expr, fold-roll-Expr}
@@ -15,7 +15,7 @@ use Rattle.tp_spec.specs.declared.problem.How.TheVariants.{Increase, Decrease, A
 use Rattle.tp_spec.specs.declared.problem.Op.{Op}
 use Rattle.tp_spec.specs.declared.problem.Op.TheVariants.{Less, LessEq, Equal, MoreEq, More}
 use Rattle.ground_text.specs.Texts.{expr_text, expr_text_at, op_text, cond_text, effect_text}
-use Rattle.ground_text.specs.Kept.{is_kept_at, is_kept_expr, is_kept_cond, is_kept_effect}
+use Rattle.ground_text.proofs.Kept.{is_kept_at, is_kept_expr, is_kept_cond, is_kept_effect}
 use Rattle.ground_text.specs.Reading.{first_is, index_at, number_expr, fluent_expr, both_expr, expr_at, whole_expr_at, op_at, compared_at, cond_at, changed_at, effect_at}
 use Rattle.ground_text.proofs.Numbers.{integer_again, integer_first, index_again}
 use Rattle.ground_text.proofs.Members.{Ends, Again}
@@ -35,7 +35,7 @@ both_again k plus sign left right rest a b signed first second =
       behind = left ++ (32 ∷ (right ++ (41 ∷ rest)))
 
 abbrev ReadsAgain : ℕ → Expr → Type 0
-ReadsAgain n e = (k : ℕ) (rest : List ℕ) → depth e < k → fold-Expr Bool (names_below_at n) e ≡ true → is_kept_expr e ≡ true → Ends rest → expr_at k (expr_text e ++ rest) ≡ (e, rest)
+ReadsAgain n e = (k : ℕ) (rest : List ℕ) → depth e < k → fold-Expr Bool (is_expr_at n) e ≡ true → is_kept_expr e ≡ true → Ends rest → expr_at k (expr_text e ++ rest) ≡ (e, rest)
 
 module _ (n : ℕ) (few : n ≤ 256) where
   abbrev Part : Type 0
@@ -51,13 +51,13 @@ module _ (n : ℕ) (few : n ≤ 256) where
       ∙ rw (integer_first 40 z rest fits refl refl, integer_first 110 z rest fits refl refl) (ap number_expr (integer_again z rest fits ends))
   by_layer (Expr-F.Fluent x) (suc k) rest deep below kept ends =
       let text = fold-roll-Expr (List ℕ) expr_text_at (Expr-F.Fluent x) in
-      let fits = ltb-true x n (sym (fold-roll-Expr Bool (names_below_at n) (Expr-F.Fluent x)) ∙ below) in
+      let fits = ltb-true x n (sym (fold-roll-Expr Bool (is_expr_at n) (Expr-F.Fluent x)) ∙ below) in
       ap (λ (t : List ℕ). expr_at (suc k) (t ++ rest)) text
       ∙ ap fluent_expr (index_again x rest (omega arith) ends)
   by_layer (Expr-F.Sum a b) (suc k) rest deep below kept ends =
       let text = fold-roll-Expr (List ℕ) expr_text_at (Expr-F.Sum a.0 b.0) in
       let level = fold-roll-Expr ℕ depth_at (Expr-F.Sum a.0 b.0) in
-      let named = and_parts _ _ (sym (fold-roll-Expr Bool (names_below_at n) (Expr-F.Sum a.0 b.0)) ∙ below) in
+      let named = and_parts _ _ (sym (fold-roll-Expr Bool (is_expr_at n) (Expr-F.Sum a.0 b.0)) ∙ below) in
       let fits = and_parts _ _ (sym (fold-roll-Expr Bool is_kept_at (Expr-F.Sum a.0 b.0)) ∙ kept) in
       let left = expr_text a.0 in
       let right = expr_text b.0 in
@@ -70,7 +70,7 @@ module _ (n : ℕ) (few : n ≤ 256) where
   by_layer (Expr-F.Difference a b) (suc k) rest deep below kept ends =
       let text = fold-roll-Expr (List ℕ) expr_text_at (Expr-F.Difference a.0 b.0) in
       let level = fold-roll-Expr ℕ depth_at (Expr-F.Difference a.0 b.0) in
-      let named = and_parts _ _ (sym (fold-roll-Expr Bool (names_below_at n) (Expr-F.Difference a.0 b.0)) ∙ below) in
+      let named = and_parts _ _ (sym (fold-roll-Expr Bool (is_expr_at n) (Expr-F.Difference a.0 b.0)) ∙ below) in
       let fits = and_parts _ _ (sym (fold-roll-Expr Bool is_kept_at (Expr-F.Difference a.0 b.0)) ∙ kept) in
       let left = expr_text a.0 in
       let right = expr_text b.0 in

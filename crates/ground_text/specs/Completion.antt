@@ -2,24 +2,25 @@
 use Rattle.std.specs.Prelude.{ℕ, zero, suc, ◌+◌, ◌-◌, ℤ, Bool, true, ◌&&◌, ◌==◌, max, List, [], ◌∷◌, ◌++◌, length, map, Option, None, if◌then◌else◌}
 use Rattle.std.specs.List.{list_all}
 use Rattle.tp_spec.specs.Lists.{is_empty}
-use Rattle.tp_spec.specs.WellFormed.{Ground}
+use Rattle.tp_spec.specs.WellFormed.{Ground, IsWellFormed}
 use Rattle.tp_spec.specs.declared.list.Name.{Name}
 use Rattle.tp_spec.specs.declared.problem.Action.{Action}
 use Rattle.tp_spec.specs.declared.problem.Kind.{Kind}
 use Rattle.tp_spec.specs.declared.problem.Kind.TheVariants.{Instant, Durative}
 use Rattle.tp_spec.specs.declared.problem.TimedItem.{TimedItem}
 use Rattle.ground_text.specs.Texts.{problem_text}
-use Rattle.ground_text.specs.Kept.{IsProblem}
-use Rattle.ground_text.specs.Faults.{Begins}
+use Rattle.line_text.specs.Lines.{Begins}
 
 -- how many bytes the first n lines have, and whether there are as many
 abbrev pub lines_len : ℕ → List ℕ → ℕ
 lines_len n [] = 0
-lines_len n (c ∷ text) = if n == 0 then 0 else if c == 10 then 1 + lines_len (n - 1) text else 1 + lines_len n text
+lines_len n (c ∷ text) =
+    if n == 0 then 0 else if c == 10 then 1 + lines_len (n - 1) text else 1 + lines_len n text
 
 abbrev pub lines_stand : ℕ → List ℕ → Bool
 lines_stand n [] = n == 0
-lines_stand n (c ∷ text) = if n == 0 then true else if c == 10 then lines_stand (n - 1) text else lines_stand n text
+lines_stand n (c ∷ text) =
+    if n == 0 then true else if c == 10 then lines_stand (n - 1) text else lines_stand n text
 
 abbrev pub scale_or_one : ℕ → ℕ
 scale_or_one scale = if scale == 0 then 1 else scale
@@ -66,16 +67,20 @@ filled_action most a = record {
 -- actions with the missing ones filled in; before them stand names of at most so many `!`
 abbrev pub filled_actions : ℕ → List Action → List Action
 filled_actions most [] = []
-filled_actions most (a ∷ actions) = filled_action most a ∷ filled_actions (max most (bangs (name_or_bangs most a.name))) actions
+filled_actions most (a ∷ actions) =
+    filled_action most a ∷ filled_actions (max most (bangs (name_or_bangs most a.name))) actions
 
 -- where a timed item is missing, the first fact is added at the first tick that may come
 abbrev pub filled_item : ℕ → TimedItem → TimedItem
-filled_item next t = if is_empty t.adds && is_empty t.deletes then record { tick = next; adds = 0 ∷ []; deletes = [] } else t
+filled_item next t =
+    if is_empty t.adds
+    && is_empty t.deletes then record { tick = next; adds = 0 ∷ []; deletes = [] } else t
 
 -- timed items with the missing ones filled in; the first may come at the tick next
 abbrev pub filled_timed : ℕ → List TimedItem → List TimedItem
 filled_timed next [] = []
-filled_timed next (t ∷ items) = filled_item next t ∷ filled_timed (suc (filled_item next t).tick) items
+filled_timed next (t ∷ items) =
+    filled_item next t ∷ filled_timed (suc (filled_item next t).tick) items
 
 -- where the values are missing, none for each fluent
 abbrev pub filled_values : List Name → List (Option ℤ) → List (Option ℤ)
@@ -97,8 +102,8 @@ completed p = record {
 
 -- No ground text begins with the first n lines.
 abbrev pub NoneBegins : ℕ → List ℕ → Type 0
-NoneBegins n text = (p : Ground) → IsProblem p → Begins n (problem_text p) text → ⊥
+NoneBegins n text = (p : Ground) → IsWellFormed p → Begins n (problem_text p) text → ⊥
 
 -- a problem whose text begins with the first n lines
 abbrev pub SomeBegins : ℕ → List ℕ → Ground → Type 0
-SomeBegins n text q = IsProblem q × Begins n (problem_text q) text
+SomeBegins n text q = IsWellFormed q × Begins n (problem_text q) text

@@ -32,7 +32,16 @@ go = record {
 }
 
 abbrev pub wave : Action
-wave = record { name = codes "wave"; kind = Instant; start_conds = []; all_conds = []; end_conds = []; start_effects = []; end_effects = [] }
+wave =
+    record {
+      name = codes "wave";
+      kind = Instant;
+      start_conds = [];
+      all_conds = [];
+      end_conds = [];
+      start_effects = [];
+      end_effects = [];
+    }
 
 abbrev pub small : Ground
 small = record {
@@ -40,7 +49,9 @@ small = record {
   facts = codes "at a" ∷ codes "at b" ∷ codes "shut" ∷ [];
   fluents = codes "fuel" ∷ codes "load" ∷ [];
   actions = go ∷ wave ∷ [];
-  timed = record { tick = 0; adds = 2 ∷ []; deletes = [] } ∷ record { tick = 9; adds = 2 ∷ []; deletes = 1 ∷ [] } ∷ [];
+  timed =
+      record { tick = 0; adds = 2 ∷ []; deletes = [] }
+      ∷ record { tick = 9; adds = 2 ∷ []; deletes = 1 ∷ [] } ∷ [];
   init = 0 ∷ 2 ∷ [];
   values = Some (pos 7) ∷ None ∷ [];
   goal = Lit 1 true ∷ [];

@@ -6,7 +6,7 @@ use Rattle.tp_spec.specs.Lists.{each_next}
 use Rattle.tp_spec.specs.WellFormed.{Ground, is_name, name_before}
 use Rattle.tp_spec.specs.declared.list.Name.{Name}
 use Rattle.tp_spec.specs.declared.problem.TimedItem.{TimedItem}
-use Rattle.ground_text.specs.declared.sections.Parts.{Parts}
+use Rattle.problem_rules.specs.declared.parts.Parts.{Parts}
 use Rattle.ground_text.specs.Completion.{name_or_next, filled, filled_item, filled_timed, completed}
 
 abbrev pub tick_fits : TimedItem → Bool
@@ -29,12 +29,24 @@ AreFilledTimed items (Some ts) = (ts ≡ filled_timed 0 items) × (list_all tick
 
 -- parts as a problem whose missing names are filled in
 abbrev pub filled_ground : Parts → Ground
-filled_ground p = record { scale = p.scale; facts = filled [] p.facts; fluents = filled [] p.fluents; actions = p.actions; timed = p.timed; init = p.init; values = p.values; goal = p.goal }
+filled_ground p =
+    record {
+      scale = p.scale;
+      facts = filled [] p.facts;
+      fluents = filled [] p.fluents;
+      actions =
+          p.actions;
+      timed = p.timed;
+      init = p.init;
+      values = p.values;
+      goal = p.goal;
+    }
 
 -- parts of the completion, or none where a tick of it does not fit
 abbrev pub AreCompleted : Ground → Option Parts → Type 0
 AreCompleted read None = list_all tick_fits (completed read).timed ≡ false
-AreCompleted read (Some p) = (filled_ground p ≡ completed read) × (list_all tick_fits (completed read).timed ≡ true)
+AreCompleted read (Some p) =
+    (filled_ground p ≡ completed read) × (list_all tick_fits (completed read).timed ≡ true)
 
 -- names that rise from one on
 abbrev pub rise_from : List ℕ → List Name → Bool
@@ -42,5 +54,8 @@ rise_from before names = list_all is_name names && each_next name_before (before
 
 -- a name, filled in behind the one before it, or none where it may not stand there
 abbrev pub IsNextName : {Z : Type 0} → List ℕ → List ℕ → Option (String Z) → Type 0
-IsNextName before name None = (is_name (name_or_next before name) && name_before before (name_or_next before name)) ≡ false
-IsNextName before name (Some next) = (string_bytes next ≡ name_or_next before name) × (is_name (string_bytes next) ≡ true) × (name_before before (string_bytes next) ≡ true)
+IsNextName before name None =
+    (is_name (name_or_next before name) && name_before before (name_or_next before name)) ≡ false
+IsNextName before name (Some next) =
+    (string_bytes next ≡ name_or_next before name) × (is_name (string_bytes next) ≡ true)
+    × (name_before before (string_bytes next) ≡ true)

@@ -1,9 +1,6 @@
 pub mod Texts
-pub mod Kept
+pub mod Grammar
 pub mod Reading
-pub mod Parts
-pub mod Tests
 pub mod Examples
-pub mod Faults
 pub mod Completion
 pub mod Filling

@@ -1,5 +1,6 @@
--- What a text that may be a ground text would be the text of. Every reader here gives something for every text: it takes
--- what stands where a part would stand, and says nothing of whether the text is a ground text.
+-- What a text that may be a ground text would be the text of. Every reader here gives something for
+-- every text: it takes what stands where a part would stand, and says nothing of whether the text
+-- is a ground text.
 use Rattle.std.specs.Prelude.{ℕ, zero, suc, ◌+◌, ◌-◌, ◌*◌, ◌^◌, ℤ, pos, negsuc, neg_ℤ, Bool, true, false, not, ◌&&◌, ◌==◌, nat_lt, nat_le, min, List, [], ◌∷◌, length, take, drop, Option, Some, None, if◌then◌else◌}
 use Rattle.std.specs.List.{filter, flat_map}
 use Rattle.tp_spec.specs.WellFormed.{Ground}
@@ -27,7 +28,8 @@ within n = min n (2 ^ 64 - 1)
 -- the number that the digits in front write behind those of n, and what stands behind them
 abbrev pub number_from : ℕ → List ℕ → ℕ × List ℕ
 number_from n [] = (n, [])
-number_from n (c ∷ rest) = if is_digit c then number_from (within (within (n * 10) + (c - 48))) rest else (n, c ∷ rest)
+number_from n (c ∷ rest) =
+    if is_digit c then number_from (within (within (n * 10) + (c - 48))) rest else (n, c ∷ rest)
 
 unfoldable pub number_at : List ℕ → ℕ × List ℕ
 number_at bytes = number_from 0 bytes
@@ -40,7 +42,8 @@ unfoldable pub index_at : List ℕ → ℕ × List ℕ
 index_at bytes = (narrow (number_at bytes).0, (number_at bytes).1)
 
 abbrev pub signed_of : Bool → ℕ → ℤ
-signed_of minus n = if nat_lt n (2 ^ 63) then (if minus then neg_ℤ (pos n) else pos n) else negsuc (2 ^ 63 - 1)
+signed_of minus n =
+    if nat_lt n (2 ^ 63) then (if minus then neg_ℤ (pos n) else pos n) else negsuc (2 ^ 63 - 1)
 
 -- a number with a minus before it, or without
 unfoldable pub integer_at : List ℕ → ℤ × List ℕ
@@ -59,7 +62,8 @@ is_ascii_byte c = nat_lt c 128
 
 -- the next line as a name, without bytes beyond ASCII
 unfoldable pub name_at : List ℕ → List ℕ × List ℕ
-name_at bytes = (filter is_ascii_byte (take (line_len bytes) bytes), drop (line_len bytes + 1) bytes)
+name_at bytes =
+    (filter is_ascii_byte (take (line_len bytes) bytes), drop (line_len bytes + 1) bytes)
 
 abbrev pub first_is : ℕ → List ℕ → Bool
 first_is c [] = false
@@ -69,18 +73,23 @@ first_is c (d ∷ rest) = d == c
 abbrev pub members_at : {A : Type 0} → (List ℕ → A × List ℕ) → ℕ → List ℕ → List A × List ℕ
 members_at at zero bytes = ([], bytes)
 members_at at (suc k) bytes =
-    if first_is 32 bytes then
-    ((at (drop 1 bytes)).0 ∷ (members_at at k (at (drop 1 bytes)).1).0, (members_at at k (at (drop 1 bytes)).1).1)
+    if first_is 32 bytes then (
+      (at (drop 1 bytes)).0
+          ∷ (members_at at k (at (drop 1 bytes)).1).0,
+      (members_at at k (at (drop 1 bytes)).1).1,
+    )
     else ([], bytes)
 
 -- so many, one behind the other
 abbrev pub repeated_at : {A : Type 0} → (List ℕ → A × List ℕ) → ℕ → List ℕ → List A × List ℕ
 repeated_at at zero bytes = ([], bytes)
-repeated_at at (suc k) bytes = ((at bytes).0 ∷ (repeated_at at k (at bytes).1).0, (repeated_at at k (at bytes).1).1)
+repeated_at at (suc k) bytes =
+    ((at bytes).0 ∷ (repeated_at at k (at bytes).1).0, (repeated_at at k (at bytes).1).1)
 
 -- a count of at most so many, and as many behind its line
 unfoldable pub counted_at : {A : Type 0} → (List ℕ → A × List ℕ) → ℕ → List ℕ → List A × List ℕ
-counted_at at most bytes = repeated_at at (min (number_at bytes).0 most) (drop 1 (number_at bytes).1)
+counted_at at most bytes =
+    repeated_at at (min (number_at bytes).0 most) (drop 1 (number_at bytes).1)
 
 abbrev pub number_expr : ℤ × List ℕ → Expr × List ℕ
 number_expr n = (roll-Expr (Expr-F.Number n.0), n.1)
@@ -97,7 +106,8 @@ abbrev pub expr_at : ℕ → List ℕ → Expr × List ℕ
 expr_at zero bytes = number_expr (pos 0, bytes)
 expr_at (suc k) bytes =
     if first_is 40 bytes then (
-      both_expr (first_is 43 (drop 1 bytes)) (expr_at k (drop 3 bytes)).0 (expr_at k (drop 1 (expr_at k (drop 3 bytes)).1)).0,
+      both_expr (first_is 43 (drop 1 bytes)) (expr_at k (drop 3 bytes)).0
+          (expr_at k (drop 1 (expr_at k (drop 3 bytes)).1)).0,
       drop 1 (expr_at k (drop 1 (expr_at k (drop 3 bytes)).1)).1,
     )
     else if first_is 110 bytes then fluent_expr (index_at (drop 1 bytes))
@@ -108,8 +118,10 @@ whole_expr_at bytes = expr_at 33 bytes
 
 unfoldable pub op_at : List ℕ → Op × List ℕ
 op_at bytes =
-    if first_is 60 bytes then (if first_is 61 (drop 1 bytes) then (LessEq, drop 2 bytes) else (Less, drop 1 bytes))
-    else if first_is 62 bytes then (if first_is 61 (drop 1 bytes) then (MoreEq, drop 2 bytes) else (More, drop 1 bytes))
+    if first_is 60 bytes
+    then (if first_is 61 (drop 1 bytes) then (LessEq, drop 2 bytes) else (Less, drop 1 bytes))
+    else if first_is 62 bytes
+    then (if first_is 61 (drop 1 bytes) then (MoreEq, drop 2 bytes) else (More, drop 1 bytes))
     else (Equal, drop 1 bytes)
 
 abbrev pub compared_at : Op × List ℕ → Cond × List ℕ
@@ -124,10 +136,15 @@ cond_at bytes =
     else (Lit (index_at (drop 1 bytes)).0 (first_is 43 bytes), (index_at (drop 1 bytes)).1)
 
 abbrev pub how_of : List ℕ → How
-how_of bytes = if first_is 105 bytes then Increase else if first_is 100 bytes then Decrease else Assign
+how_of bytes =
+    if first_is 105 bytes then Increase else if first_is 100 bytes then Decrease else Assign
 
 abbrev pub changed_at : How → ℕ × List ℕ → Effect × List ℕ
-changed_at how fluent = (Change how fluent.0 (whole_expr_at (drop 1 fluent.1)).0, drop 1 (whole_expr_at (drop 1 fluent.1)).1)
+changed_at how fluent = (
+  Change how fluent.0 (whole_expr_at (drop 1 fluent.1)).0,
+  drop 1
+      (whole_expr_at (drop 1 fluent.1)).1,
+)
 
 unfoldable pub effect_at : List ℕ → Effect × List ℕ
 effect_at bytes =
@@ -160,7 +177,16 @@ unfoldable pub instant_at : List ℕ → List ℕ → Action × List ℕ
 instant_at name bytes =
     let start_conds = conds_at (drop 10 bytes) in
     let start_effects = effects_at (drop 3 start_conds.1) in (
-      record { name = name; kind = Instant; start_conds = start_conds.0; all_conds = []; end_conds = []; start_effects = start_effects.0; end_effects = [] },
+      record {
+        name = name;
+        kind = Instant;
+        start_conds = start_conds.0;
+        all_conds = [];
+        end_conds =
+            [];
+        start_effects = start_effects.0;
+        end_effects = [];
+      },
       drop 1 start_effects.1,
     )
 
@@ -173,7 +199,17 @@ durative_at name bytes =
     let end_conds = conds_at (drop 3 all_conds.1) in
     let start_effects = effects_at (drop 3 end_conds.1) in
     let end_effects = effects_at (drop 3 start_effects.1) in (
-      record { name = name; kind = Durative least.0 most.0; start_conds = start_conds.0; all_conds = all_conds.0; end_conds = end_conds.0; start_effects = start_effects.0; end_effects = end_effects.0 },
+      record {
+        name = name;
+        kind = Durative least.0 most.0;
+        start_conds = start_conds.0;
+        all_conds =
+            all_conds.0;
+        end_conds = end_conds.0;
+        start_effects = start_effects.0;
+        end_effects =
+            end_effects.0;
+      },
       drop 1 end_effects.1,
     )
 
@@ -195,8 +231,14 @@ deleted (Change how x e) = []
 unfoldable pub timed_at : List ℕ → TimedItem × List ℕ
 timed_at bytes =
     let tick = number_at (drop 3 bytes) in
-    let literals = effects_at tick.1 in
-    (record { tick = tick.0; adds = flat_map added literals.0; deletes = flat_map deleted literals.0 }, drop 1 literals.1)
+    let literals = effects_at tick.1 in (
+      record {
+        tick = tick.0;
+        adds = flat_map added literals.0;
+        deletes = flat_map deleted literals.0;
+      },
+      drop 1 literals.1,
+    )
 
 unfoldable pub parts_at : List ℕ → Ground
 parts_at bytes =
@@ -208,4 +250,14 @@ parts_at bytes =
     let init = indices_at (drop 4 timed.1) in
     let values = values_at (drop 7 init.1) in
     let goal = conds_at (drop 5 values.1) in
-    record { scale = scale.0; facts = facts.0; fluents = fluents.0; actions = actions.0; timed = timed.0; init = init.0; values = values.0; goal = goal.0 }
+    record {
+      scale = scale.0;
+      facts = facts.0;
+      fluents = fluents.0;
+      actions = actions.0;
+      timed =
+          timed.0;
+      init = init.0;
+      values = values.0;
+      goal = goal.0;
+    }

@@ -43,18 +43,23 @@ op_text More = codes ">"
 unfoldable pub cond_text : Cond → List ℕ
 cond_text (Lit fact true) = codes "+" ++ decimal fact
 cond_text (Lit fact false) = codes "-" ++ decimal fact
-cond_text (Compare op left right) = codes "(" ++ op_text op ++ codes " " ++ expr_text left ++ codes " " ++ expr_text right ++ codes ")"
+cond_text (Compare op left right) =
+    codes "(" ++ op_text op ++ codes " " ++ expr_text left ++ codes " " ++ expr_text right
+    ++ codes ")"
 
 abbrev pub how_text : How → List ℕ
 how_text Increase = codes "inc"
 how_text Decrease = codes "dec"
 how_text Assign = codes "set"
 
--- `+f` adds the fact f, `-f` deletes it; `(inc k E)`, `(dec k E)` and `(set k E)` change the fluent k
+-- `+f` adds the fact f, `-f` deletes it; `(inc k E)`, `(dec k E)` and `(set k E)` change the fluent
+-- k
 unfoldable pub effect_text : Effect → List ℕ
 effect_text (Add fact) = codes "+" ++ decimal fact
 effect_text (Delete fact) = codes "-" ++ decimal fact
-effect_text (Change how fluent e) = codes "(" ++ how_text how ++ codes " " ++ decimal fluent ++ codes " " ++ expr_text e ++ codes ")"
+effect_text (Change how fluent e) =
+    codes "(" ++ how_text how ++ codes " " ++ decimal fluent ++ codes " " ++ expr_text e
+    ++ codes ")"
 
 -- what stands behind the name of an action; an instant action has a start alone
 unfoldable pub body_text : Kind → Action → List ℕ
@@ -80,7 +85,8 @@ merged (a ∷ adds) (d ∷ deletes) =
     if nat_lt a d then Add a ∷ merged adds (d ∷ deletes) else Delete d ∷ merged (a ∷ adds) deletes
 
 unfoldable pub timed_text : TimedItem → List ℕ
-timed_text t = codes "at " ++ decimal t.tick ++ listed effect_text (merged t.adds t.deletes) ++ codes "\n"
+timed_text t =
+    codes "at " ++ decimal t.tick ++ listed effect_text (merged t.adds t.deletes) ++ codes "\n"
 
 -- a fluent's value at the start, or `-` where it has none
 abbrev pub value_text : Option ℤ → List ℕ
@@ -98,8 +104,9 @@ counted text xs = decimal (length xs) ++ codes "\n" ++ flat_map text xs
 unfoldable pub header_text : ℕ → List ℕ
 header_text scale = codes "ground 1\nscale " ++ decimal scale
 
--- The one text of a problem: ASCII lines, each ended by a line feed, one space between words.
--- This project's own format; the parts are those of a ground problem of PDDL 2.1 with timed initial literals.
+-- The one text of a problem: ASCII lines, each ended by a line feed, one space between words. This
+-- project's own format; the parts are those of a ground problem of PDDL 2.1 with timed initial
+-- literals.
 unfoldable pub problem_text : Ground → List ℕ
 problem_text p =
     header_text p.scale

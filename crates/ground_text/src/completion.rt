@@ -1,11 +1,10 @@
 ghost use Rattle.std.specs.Prelude.{◌≡◌, map, None, IfOk, string_bytes};
-ghost use Rattle.ground_text.specs.Parts.{ground_of};
+ghost use Rattle.problem_rules.specs.Parts.{ground_of};
 ghost use Rattle.ground_text.specs.Completion.{name_or_next as name_or_next_of, scale_or_one as scale_or_one_of, filled_values as filled_values_of};
 ghost use Rattle.ground_text.specs.Filling.{AreCompleted};
 
-use crate::checks::is_empty;
 use crate::filling::{filled_actions, filled_timed};
-use crate::sections::Parts;
+use problem_rules::{Parts, is_empty};
 use std::alloc::{AllocError, Global};
 use tp_spec::{List, Name};
 
@@ -52,8 +51,9 @@ fn scale_or_one(scale: u32) -> u32
     if scale == 0 { 1 } else { scale }
 }
 
-/// The parts of a problem whose text may begin with the lines that were read: what is missing is filled in, but for names
-/// of facts and fluents, which stay unwritten. None where a tick would not fit in 64 bits.
+/// The parts of a problem whose text may begin with the lines that were read: what is missing is
+/// filled in, but for names of facts and fluents, which stay unwritten. None where a tick would not
+/// fit in 64 bits.
 pub fn complete(alloc: Global, read: Parts) -> Result<Option<Parts>, AllocError>
     ensures { IfOk result (λ o. AreCompleted (ground_of read) o) }
 {

@@ -5,7 +5,7 @@ ghost use Rattle.ground_text.specs.Completion.{bang_name as bang_name_of, bangs 
 ghost use Rattle.ground_text.specs.Filling.{tick_of, IsFilledItem, AreFilledTimed};
 
 use crate::bytes::name_of;
-use crate::checks::is_empty;
+use problem_rules::is_empty;
 use std::alloc::{AllocError, Global};
 use tp_spec::{Action, Kind, List, Name, TimedItem};
 
@@ -39,8 +39,8 @@ fn bangs(name: &str) -> usize
     }
 }
 
-/// The most `!` of an action's name behind which missing ones are filled in, so that no text asks for many times its own
-/// size of memory: there are at most 4,096 of them.
+/// The most `!` of an action's name behind which missing ones are filled in, so that no text asks
+/// for many times its own size of memory: there are at most 4,096 of them.
 const MOST_BANGS: usize = 16_384;
 
 /// A name of one `!` more. More than the most of them count as memory refused.
@@ -141,7 +141,8 @@ fn first_added(alloc: Global, tick: u64) -> Result<TimedItem, AllocError>
     })
 }
 
-/// A timed item, or where it is missing the first fact added at the tick that comes next; none where that does not fit.
+/// A timed item, or where it is missing the first fact added at the tick that comes next; none
+/// where that does not fit.
 fn filled_item(
     alloc: Global,
     next: Option<u64>,

@@ -1,5 +1,5 @@
 ghost use Rattle.std.specs.Prelude.{◌≡◌, ◌≤◌, length, IsTrue};
-ghost use Rattle.ground_text.specs.Faults.{has_lines, lines};
+ghost use Rattle.line_text.specs.Lines.{has_lines, lines};
 ghost use Rattle.ground_text.specs.Completion.{lines_len as lines_len_of, lines_stand};
 
 /// Whether two texts are the same.
@@ -30,7 +30,8 @@ fn lines_len(text: &[u8], count: usize) -> (usize, bool)
     (len, left == 0)
 }
 
-/// The first lines with their line feeds, or all bytes where there are fewer, and whether there are as many.
+/// The first lines with their line feeds, or all bytes where there are fewer, and whether there are
+/// as many.
 pub fn first_lines(text: &[u8], count: usize) -> (&[u8], bool)
     ensures front { result.0.now ≡ lines count text.now }
     ensures all { result.1 ≡ has_lines count text.now }

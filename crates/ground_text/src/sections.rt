@@ -2,25 +2,13 @@ ghost use Rattle.std.specs.Prelude.{◌≡◌, IfOk};
 ghost use Rattle.std.specs.List.{flat_map};
 ghost use Rattle.tp_spec.specs.WellFormed.{Ground};
 ghost use Rattle.ground_text.specs.Reading.{counted_at, name_at, action_at, instant_at, durative_at, timed_at, parts_at, added as added_by, deleted as deleted_by};
-ghost use Rattle.ground_text.specs.Parts.{ground_of};
+ghost use Rattle.problem_rules.specs.Parts.{ground_of};
 
 use crate::bytes::{first_is, index, name, number, skip};
 use crate::reading::{conds, effects, indices, values};
+use problem_rules::Parts;
 use std::alloc::{AllocError, Global};
-use tp_spec::{Action, Cond, Effect, Kind, List, Name, TimedItem};
-
-/// What a text has between its first and its last line.
-#[derive(Drop)]
-pub struct Parts {
-    pub scale: u32,
-    pub facts: List<Name>,
-    pub fluents: List<Name>,
-    pub actions: List<Action>,
-    pub timed: List<TimedItem>,
-    pub init: List<u32>,
-    pub values: List<Option<i64>>,
-    pub goal: List<Cond>,
-}
+use tp_spec::{Action, Effect, Kind, List, Name, TimedItem};
 
 /// What follows the name of an instant action.
 #[tactic(auto, unfolding(crate::specs::Reading::instant_at))]

@@ -1,18 +1,17 @@
 ghost use Rattle.std.specs.Prelude.{◌≡◌, ◌&&◌, [], ◌++◌, true, codes, length, take, string_bytes, IfOk, OnOk, IsTrue};
 ghost use Rattle.tp_spec.specs.WellFormed.{is_name as is_name_of, name_before};
 ghost use Rattle.ground_text.specs.Texts.{counted, name_text, header_text, problem_text};
-ghost use Rattle.ground_text.specs.Tests.{are_few_names, names_hold, items_hold as items_hold_of, states_hold as states_hold_of, well_formed};
+ghost use Rattle.problem_rules.specs.Tests.{are_few_names, names_hold, items_hold as items_hold_of, states_hold as states_hold_of, ranges_hold as ranges_hold_of, well_formed};
 ghost use Rattle.ground_text.specs.Completion.{filled};
 ghost use Rattle.ground_text.specs.Filling.{rise_from, IsNextName, filled_ground};
 
 use crate::completion::name_or_next;
 use crate::lines::same_bytes;
-use crate::names::is_name;
-use crate::rules::{is_scale, items_hold, states_hold};
-use crate::sections::Parts;
-use crate::writing::{put_header, put_items, put_number, put_states};
-use std::alloc::{AllocError, Global};
-use tp_spec::Name;
+use crate::writing::{put_header, put_items, put_states};
+use line_text::{push_bytes, push_number};
+use problem_rules::{Parts, is_name, is_scale, items_hold, ranges_hold, states_hold};
+use std::alloc::Global;
+use tp_spec::{Name, NoMemory};
 
 /// Whether a text is a name that may stand behind another one.
 fn is_next_name(before: &str, name: &str) -> bool
@@ -21,8 +20,9 @@ fn is_next_name(before: &str, name: &str) -> bool
     is_name(name.as_bytes()) && before < name
 }
 
-/// A name, or where it is missing the one before it with `!` behind it; none where it may not stand behind that one.
-fn next_name(alloc: Global, before: String, name: &str) -> Result<Option<String>, AllocError>
+/// A name, or where it is missing the one before it with `!` behind it; none where it may not stand
+/// behind that one.
+fn next_name(alloc: Global, before: String, name: &str) -> Result<Option<String>, NoMemory>
     requires { is_name_of (string_bytes before) ≡ true }
     ensures { IfOk result (λ o. IsNextName (string_bytes before) name.now o) }
 {
@@ -37,8 +37,9 @@ fn next_name(alloc: Global, before: String, name: &str) -> Result<Option<String>
     Ok(Some(String::from_str(alloc, name)?))
 }
 
-/// Whether names rise from one on where the missing ones are filled in. What is filled in always rises.
-fn filled_rise(alloc: Global, first: &str, names: &[Name]) -> Result<bool, AllocError>
+/// Whether names rise from one on where the missing ones are filled in. What is filled in always
+/// rises.
+fn filled_rise(alloc: Global, first: &str, names: &[Name]) -> Result<bool, NoMemory>
     requires { is_name_of first.now ≡ true }
     ensures { IfOk result (λ is. is ≡ rise_from first.now (filled first.now names.now)) }
 {
@@ -59,7 +60,7 @@ fn filled_rise(alloc: Global, first: &str, names: &[Name]) -> Result<bool, Alloc
 }
 
 /// Whether names keep the rules of names where the missing ones are filled in.
-fn are_few_filled(alloc: Global, most: usize, names: &[Name]) -> Result<bool, AllocError>
+fn are_few_filled(alloc: Global, most: usize, names: &[Name]) -> Result<bool, NoMemory>
     ensures { IfOk result (λ is. is ≡ are_few_names most (filled [] names.now)) }
 {
     if names.len() > most {
@@ -77,8 +78,9 @@ fn are_few_filled(alloc: Global, most: usize, names: &[Name]) -> Result<bool, Al
     }
 }
 
-/// Whether the scale and the names keep the rules of a problem where the missing names are filled in.
-fn filled_names_hold(alloc: Global, parts: &Parts) -> Result<bool, AllocError>
+/// Whether the scale and the names keep the rules of a problem where the missing names are filled
+/// in.
+fn filled_names_hold(alloc: Global, parts: &Parts) -> Result<bool, NoMemory>
     ensures { IfOk result (λ is. is ≡ names_hold (filled_ground parts.now)) }
 {
     if !is_scale(parts.scale) {
@@ -90,11 +92,13 @@ fn filled_names_hold(alloc: Global, parts: &Parts) -> Result<bool, AllocError>
     are_few_filled(alloc, 256, parts.fluents.as_slice())
 }
 
-/// Whether actions and timed items keep the rules of a problem: those that are filled in are as many names.
-fn filled_items_hold(parts: &Parts) -> bool
-    ensures { result ≡ items_hold_of (filled_ground parts.now) }
+/// Whether actions and timed items keep the rules of a problem: those that are filled in are as
+/// many names.
+fn filled_items_hold(alloc: Global, parts: &Parts) -> Result<bool, NoMemory>
+    ensures { IfOk result (λ is. is ≡ items_hold_of (filled_ground parts.now)) }
 {
-    items_hold(parts)
+    let holds = items_hold(alloc, parts)?;
+    Ok(holds)
 }
 
 /// Whether the start and the goal keep the rules of a problem.
@@ -104,34 +108,44 @@ fn filled_states_hold(parts: &Parts) -> bool
     states_hold(parts)
 }
 
+/// Whether ticks and values are in their ranges.
+fn filled_ranges_hold(parts: &Parts) -> bool
+    ensures { result ≡ ranges_hold_of (filled_ground parts.now) }
+{
+    ranges_hold(parts)
+}
+
 /// Whether parts keep the rules of a problem where the missing names are filled in.
-pub fn is_filled_well(alloc: Global, parts: &Parts) -> Result<bool, AllocError>
+pub fn is_filled_well(alloc: Global, parts: &Parts) -> Result<bool, NoMemory>
     ensures { IfOk result (λ is. is ≡ well_formed (filled_ground parts.now)) }
 {
     let names = filled_names_hold(alloc, parts)?;
-    Ok(names && filled_items_hold(parts) && filled_states_hold(parts))
+    let items = filled_items_hold(alloc, parts)?;
+    Ok(names && items && filled_states_hold(parts) && filled_ranges_hold(parts))
 }
 
 /// A name on a line.
 #[tactic(auto, unfolding(crate::specs::Texts::name_text))]
-fn put_line(out: &mut Vec<u8>, name: &str) -> Result<(), AllocError>
+fn put_line(out: &mut Vec<u8>, name: &str) -> Result<(), NoMemory>
     ensures { OnOk result (out.new.items ≡ out.old.items ++ name_text name.now) }
 {
-    out.extend_from_slice(name.as_bytes())?;
-    out.extend_from_slice(b"\n")
+    push_bytes(out, name.as_bytes())?;
+    push_bytes(out, b"\n")
 }
 
-/// A count of names, and as many lines, the missing names filled in. Once so many bytes are written, the others may lack.
+/// A count of names, and as many lines, the missing names filled in. Once so many bytes are
+/// written, the others may lack.
 #[tactic(auto, unfolding(crate::specs::Texts::counted))]
 fn put_filled_names(
     alloc: Global,
     out: &mut Vec<u8>,
     limit: usize,
     names: &[Name],
-) -> Result<(), AllocError>
-    ensures { OnOk result (take limit out.new.items ≡ take limit (out.old.items ++ counted name_text (filled [] names.now))) }
+) -> Result<(), NoMemory>
+    ensures { OnOk result (take limit out.new.items
+        ≡ take limit (out.old.items ++ counted name_text (filled [] names.now))) }
 {
-    put_number(alloc, out, names.len() as u64)?;
+    push_number(out, names.len() as u64)?;
     out.extend_from_slice(b"\n")?;
     let mut before = String::new(alloc);
     let mut rest = names;
@@ -156,10 +170,14 @@ fn put_filled_front(
     out: &mut Vec<u8>,
     limit: usize,
     parts: &Parts,
-) -> Result<(), AllocError>
-    ensures { OnOk result (take limit out.new.items ≡ take limit (out.old.items ++ (header_text parts.now.scale ++ codes "\nfacts " ++ counted name_text (filled [] parts.now.facts) ++ codes "fluents " ++ counted name_text (filled [] parts.now.fluents)))) }
+) -> Result<(), NoMemory>
+    ensures { OnOk result (take limit out.new.items
+        ≡ take limit (out.old.items
+        ++ (header_text parts.now.scale ++ codes "\nfacts "
+        ++ counted name_text (filled [] parts.now.facts) ++ codes "fluents "
+        ++ counted name_text (filled [] parts.now.fluents)))) }
 {
-    put_header(alloc, out, parts.scale)?;
+    put_header(out, parts.scale)?;
     out.extend_from_slice(b"\nfacts ")?;
     put_filled_names(alloc, out, limit, parts.facts.as_slice())?;
     out.extend_from_slice(b"fluents ")?;
@@ -168,18 +186,13 @@ fn put_filled_front(
 }
 
 /// The first bytes of the lines of a problem whose missing names are filled in.
-fn put_filled(
-    alloc: Global,
-    out: &mut Vec<u8>,
-    limit: usize,
-    parts: &Parts,
-) -> Result<(), AllocError>
-    ensures { OnOk result (take limit out.new.items ≡ take limit (out.old.items ++ problem_text (filled_ground parts.now))) }
+fn put_filled(alloc: Global, out: &mut Vec<u8>, limit: usize, parts: &Parts) -> Result<(), NoMemory>
+    ensures { OnOk result (take limit out.new.items
+        ≡ take limit (out.old.items ++ problem_text (filled_ground parts.now))) }
 {
     put_filled_front(alloc, out, limit, parts)?;
-    put_items(alloc, out, parts.actions.as_slice(), parts.timed.as_slice())?;
+    put_items(out, parts.actions.as_slice(), parts.timed.as_slice())?;
     put_states(
-        alloc,
         out,
         parts.init.as_slice(),
         parts.values.as_slice(),
@@ -190,9 +203,11 @@ fn put_filled(
 }
 
 /// Whether the text of a problem whose missing names are filled in begins with these bytes.
-pub fn filled_begins(alloc: Global, parts: &Parts, front: &[u8]) -> Result<bool, AllocError>
-    ensures yes { IfOk result (λ is. IsTrue is → take (length front.now) (problem_text (filled_ground parts.now)) ≡ front.now) }
-    ensures no { IfOk result (λ is. take (length front.now) (problem_text (filled_ground parts.now)) ≡ front.now → IsTrue is) }
+pub fn filled_begins(alloc: Global, parts: &Parts, front: &[u8]) -> Result<bool, NoMemory>
+    ensures yes { IfOk result (λ is. IsTrue is
+        → take (length front.now) (problem_text (filled_ground parts.now)) ≡ front.now) }
+    ensures no { IfOk result (λ is. take (length front.now) (problem_text (filled_ground parts.now))
+        ≡ front.now → IsTrue is) }
 {
     let mut out = Vec::new(alloc);
     put_filled(alloc, &mut out, front.len(), parts)?;

@@ -1,5 +1,5 @@
 -- What is read is bounded.
-use Rattle.std.proofs.Common.{◌≡◌, ℕ, zero, suc, ◌+◌, ◌*◌, ◌/◌, ◌%◌, ◌^◌, ◌<◌, ◌≤◌, ℤ, pos, negsuc, neg_ℤ, Bool, true, false, cond, ◌&&◌, nat_lt, nat_eq, List, [], ◌∷◌, ◌++◌, length, drop, Option, Some, None, Result, Ok, Err, IfOk, IsTrue, refl, ap, sym, subst, ◌∙◌, arith}
+use Rattle.std.proofs.Common.{◌≡◌, ℕ, zero, suc, ◌+◌, ◌*◌, ◌/◌, ◌%◌, ◌^◌, ◌<◌, ◌≤◌, ℤ, pos, negsuc, neg_ℤ, Bool, true, false, cond, ◌&&◌, nat_lt, nat_eq, List, [], ◌∷◌, ◌++◌, length, drop, Option, Some, None, Result, Ok, Err, IfOk, IsTrue, refl, ap, sym, subst, arith}
 use Rattle.std.specs.List.{list_all, slice_split}
 use Rattle.std.specs.List.Sorted.{IsPermutation}
 use Rattle.std.proofs.lemmas.Bool.{and_from, and_parts}
@@ -22,7 +22,7 @@ use Rattle.plan_text.specs.declared.fault.Fault.TheVariants.{Shape, TooLarge}
 use Rattle.plan_text.specs.declared.fault.PlanFault.{PlanFault}
 use Rattle.plan_text.specs.Pieces.{is_mark, spaced, plain}
 use Rattle.plan_text.specs.Acts.{Parts, has_minus, amount_from, amount_of, action_of, lasting, timed, act_from, act_of, parts_of}
-use Rattle.plan_text.specs.Files.{Numbered, numbered, says, kept, words, is_head, headless, without_last, endless, ends, end_line, at_number, lasts, with_act, acts_of, reach, whole, end_of, at_end, with_end, body_plan, written_plan, IsOrdered, IsPutInOrder, IsReading, IsBounded}
+use Rattle.plan_text.specs.Files.{Numbered, numbered, says, kept, words, is_head, headless, without_last, endless, ends, end_line, at_number, lasts, with_act, acts_of, reach, whole, end_of, at_end, with_end, body_plan, first_remark, with_remark, written_plan, IsOrdered, IsPutInOrder, IsReading, IsBounded}
 
 is_less : (k n : ℕ) → nat_lt k n ≡ true → k < n
 is_less k n h = grind (arith, nat_tests)
@@ -245,20 +245,24 @@ by_written : (p : Problem) (text : List ℕ) (n : ℕ) (w : Result Plan PlanFaul
 by_written p text n (Ok written) plan few h put = bounded_plan p text n written plan few h put
 by_written p text n (Err f) plan few h put = absurd put
 
+remark_known : (p : Problem) (n : ℕ) (number : Option ℕ) (read : Result Plan PlanFault) → IsKnownAnswer p n read → IsKnownAnswer p n (with_remark number read)
+remark_known p n None read h = h
+remark_known p n (Some k) (Ok plan) h = tt
+remark_known p n (Some k) (Err f) h = tt
+
 pub bounded : (p : Problem) (text : List ℕ) (r : Result Plan PlanFault) → IsReading p text r → IfOk r (IsBounded p text)
 bounded p text (Ok plan) h =
     by_written p text (length (endless (headless (kept text)))) (written_plan p text) plan (body_few text)
-    (whole_known p _ (end_line (headless (kept text))) _ (acts_known p (endless (headless (kept text))))) h
+    (remark_known p _ (first_remark text) (body_plan p (headless (kept text))) (whole_known p _ (end_line (headless (kept text))) _ (acts_known p (endless (headless (kept text)))))) h
 bounded p text (Err f) h = tt
 
 -- the same from the steps of the reader
-pub bounded_read : (p : Problem) (text : List ℕ) (body : List Numbered) (acts sorted listed : List Timed) (end : ℕ)
-    → body ≡ headless (kept text) → body_plan p body ≡ Ok (record { acts = acts; end = end })
+pub bounded_read : (p : Problem) (text : List ℕ) (acts sorted listed : List Timed) (end : ℕ)
+    → written_plan p text ≡ Ok (record { acts = acts; end = end })
     → IsPermutation acts sorted → IsTrue (each_next act_before sorted) → listed ≡ sorted
     → IsBounded p text (record { acts = listed; end = end })
-bounded_read p text body acts sorted listed end lines is put in_order same =
+bounded_read p text acts sorted listed end written put in_order same =
     let plan : Plan = record { acts = listed; end = end } in
-    let written : written_plan p text ≡ Ok (record { acts = acts; end = end }) = ap (body_plan p) (sym lines) ∙ is in
     let ordered : IsPutInOrder (record { acts = acts; end = end }) plan = record {
       acts = subst (IsPermutation acts) (sym same) put;
       in_order = subst (λ (xs : List Timed). IsTrue (each_next act_before xs)) (sym same) in_order;

@@ -10,3 +10,4 @@ pub mod Sorting
 pub mod Whole
 pub mod Rowing
 pub mod Bounds
+pub mod Remarks

@@ -1,7 +1,6 @@
 -- The text of a plan is read as that plan.
-use Rattle.std.proofs.Common.{◌≡◌, ℕ, ◌+◌, Bool, true, not, cond, ◌&&◌, ◌==◌, List, [], ◌∷◌, ◌++◌, map, drop, codes, Some, None, Result, Ok, Err, refl, ap, sym, subst, ◌∙◌, append_assoc, ◌⊎◌, inl, inr}
+use Rattle.std.proofs.Common.{◌≡◌, ℕ, ◌+◌, Bool, true, false, not, cond, ◌&&◌, ◌==◌, List, [], ◌∷◌, ◌++◌, map, drop, codes, Some, None, Result, Ok, Err, refl, ap, sym, subst, ◌∙◌, append_assoc, ◌⊎◌, inl, inr}
 use Rattle.std.specs.List.{list_all, filter, flat_map, slice_split, starts_with}
-use Rattle.std.specs.Str.{is_utf8}
 use Rattle.std.proofs.lemmas.List.Folds.{list_all-append}
 use Rattle.tp_spec.specs.Lists.{each_next}
 use Rattle.tp_spec.specs.Courses.{act_before}
@@ -14,9 +13,9 @@ use Rattle.tp_spec.specs.declared.plan.Plan.{Plan}
 use Rattle.tp_spec.specs.declared.plan.Timed.{Timed}
 use Rattle.plan_text.specs.declared.fault.PlanFault.{PlanFault}
 use Rattle.plan_text.specs.declared.fault.PlanFault.TheVariants as faults
-use Rattle.plan_text.specs.Pieces.{is_mark, spaced, uncommented}
+use Rattle.plan_text.specs.Pieces.{is_mark, spaced}
 use Rattle.plan_text.specs.Acts.{amount_of}
-use Rattle.plan_text.specs.Files.{Numbered, numbered, is_skipped, says, kept, words, is_head, is_end, headless, without_last, last_if, ends, at_number, with_act, acts_of, whole, end_of, at_end, with_end, body_plan, written_plan, IsPutInOrder, IsOrdered, IsFaultOf, IsReading}
+use Rattle.plan_text.specs.Files.{Numbered, numbered, is_skipped, is_remark, remark, first_remark, with_remark, says, kept, words, is_head, is_end, headless, without_last, last_if, ends, at_number, with_act, acts_of, whole, end_of, at_end, with_end, body_plan, written_plan, IsPutInOrder, IsOrdered, IsFaultOf, IsReading}
 use Rattle.plan_text.specs.Laws.{is_act_of, IsOrderly}
 use Rattle.plan_text.proofs.Places.{split_seam}
 use Rattle.plan_text.proofs.Numerals.{all_imply}
@@ -35,9 +34,7 @@ shown_said : (text : List ℕ) → is_shown text ≡ true → not (is_skipped te
 shown_said text h =
     let w = and_parts (list_all is_line_byte text) (not (list_all is_blank text)) h in
     let same = uncommented_line text w.0 in
-    let utf8 = utf8_line text w.0 in
-    ap (λ (b : Bool). not (b && list_all is_blank (uncommented text))) utf8
-    ∙ (ap (λ (l : List ℕ). not (list_all is_blank l)) same ∙ w.1)
+    ap (λ (l : List ℕ). not (list_all is_blank l)) same ∙ w.1
 
 -- the text of lines, each ended by a line feed, before another text
 lines_apart : (ls : List (List ℕ)) (rest : List ℕ) → list_all is_shown ls ≡ true
@@ -53,7 +50,7 @@ lines_apart (l ∷ ls) rest h =
     ∙ ap (λ (t : List (List ℕ)). l ∷ t) (lines_apart ls rest w.1))
 
 skipped_none : is_skipped [] ≡ true
-skipped_none = and_from (is_utf8 []) true (utf8_line [] refl) refl
+skipped_none = refl
 
 -- of shown lines and an empty last one all but that one are kept
 lines_kept : (n : ℕ) (ls : List (List ℕ)) → list_all is_shown ls ≡ true → filter says (numbered n (ls ++ [] ∷ [])) ≡ numbered n ls
@@ -65,6 +62,20 @@ lines_kept n (l ∷ ls) h =
 
 pub text_kept : (ls : List (List ℕ)) → list_all is_shown ls ≡ true → kept (flat_map (λ l. l ++ 10 ∷ []) ls ++ []) ≡ numbered 1 ls
 text_kept ls h = ap (λ (t : List (List ℕ)). filter says (numbered 1 t)) (lines_apart ls [] h) ∙ lines_kept 1 ls h
+
+-- no line that is shown is a comment that is not UTF-8
+plain_none : (text : List ℕ) → list_all is_line_byte text ≡ true → is_remark text ≡ false
+plain_none text h = ap (λ (b : Bool). not b && is_skipped text) (utf8_line text h)
+
+lines_plain : (n : ℕ) (ls : List (List ℕ)) → list_all is_shown ls ≡ true → remark n (ls ++ [] ∷ []) ≡ None
+lines_plain n [] h = ap (λ (b : Bool). cond b (Some n) None) (plain_none [] refl)
+lines_plain n (l ∷ ls) h =
+    let w = and_parts (is_shown l) (list_all is_shown ls) h in
+    ap (λ (b : Bool). cond b (Some n) (remark (n + 1) (ls ++ [] ∷ []))) (plain_none l (and_parts (list_all is_line_byte l) (not (list_all is_blank l)) w.0).0)
+    ∙ lines_plain (n + 1) ls w.1
+
+text_plain : (ls : List (List ℕ)) → list_all is_shown ls ≡ true → first_remark (flat_map (λ l. l ++ 10 ∷ []) ls ++ []) ≡ None
+text_plain ls h = ap (remark 1) (lines_apart ls [] h) ∙ lines_plain 1 ls h
 
 -- the last line's number
 abbrev count_on : ℕ → List (List ℕ) → ℕ
@@ -177,7 +188,7 @@ plan_written p plan w o =
     let body : List Numbered = numbered 2 (map (act_text p) plan.acts ++ end_text (tick_text p.scale plan.end) ∷ []) in
     let first : Numbered = record { number = 1; text = 112 ∷ 108 ∷ 97 ∷ 110 ∷ [] } in
     ap (written_plan p) (plan_flat p plan)
-    ∙ (ap (λ (l : List Numbered). body_plan p (headless l)) (text_kept (plan_lines p plan) (lines_shown p plan w o))
+    ∙ ((λ i. with_remark (text_plain (plan_lines p plan) (lines_shown p plan w o) i) (body_plan p (headless (text_kept (plan_lines p plan) (lines_shown p plan w o) i))))
     ∙ (ap (λ (b : Bool). body_plan p (cond b body (first ∷ body))) head_is
     ∙ body_read p 2 plan w o))
 

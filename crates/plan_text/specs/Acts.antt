@@ -1,4 +1,5 @@
--- The line of an act: `NUMERAL : ( words )`, and maybe `[ NUMERAL ]` behind it, with white space between the parts.
+-- The line of an act: `NUMERAL : ( words )`, and maybe `[ NUMERAL ]` behind it, with white space
+-- between the parts.
 use Rattle.std.specs.Prelude.{◌≡◌, ℕ, ◌+◌, ◌^◌, ℤ, pos, negsuc, Bool, false, not, ◌&&◌, nat_eq, nat_lt, if◌then◌else◌, List, [], ◌∷◌, position, bytes_eq, Option, Some, None, Result, Ok, Err}
 use Rattle.std.specs.List.{list_all, list_any}
 use Rattle.std.specs.Str.{is_utf8}
@@ -43,7 +44,8 @@ with_length start name (Some length) = Some (record { start = start; name = name
 
 abbrev pub with_name : List ℕ → Option (List ℕ × List ℕ) → Option Parts
 with_name start None = None
-with_name start (Some (name, rest)) = if are_words name then with_length start name (length_part rest) else None
+with_name start (Some (name, rest)) =
+    if are_words name then with_length start name (length_part rest) else None
 
 abbrev pub with_open : List ℕ → Option (List ℕ) → Option Parts
 with_open start None = None
@@ -83,7 +85,9 @@ action_of p name = position (λ x. bytes_eq x.name name) p.actions
 
 -- an act, where its numbers are whole and small enough, and so is their sum
 abbrev pub lasting : ℕ → Amount → Amount → Result Timed Fault
-lasting a (Ticks s) (Ticks l) = if nat_lt (s + l) (2 ^ 63) then Ok (record { action = a; start = s; length = l }) else Err TooLarge
+lasting a (Ticks s) (Ticks l) =
+    if nat_lt (s + l) (2 ^ 63) then Ok (record { action = a; start = s; length = l })
+    else Err TooLarge
 lasting a (Ticks s) Parted = Err NotWhole
 lasting a (Ticks s) Far = Err TooLarge
 lasting a Parted l = Err NotWhole
@@ -103,7 +107,9 @@ timed a (Err fault) length = Err fault
 
 abbrev pub act_from : Problem → Option Parts → Result Timed Fault
 act_from p None = Err Shape
-act_from p (Some x) = timed (action_of p (spaced x.name)) (amount_of p.scale (spaced x.start)) (length_of p.scale x.length)
+act_from p (Some x) =
+    timed (action_of p (spaced x.name)) (amount_of p.scale (spaced x.start))
+    (length_of p.scale x.length)
 
 -- the act of a line, or why there is none
 abbrev pub act_of : Problem → List ℕ → Result Timed Fault

@@ -1,4 +1,5 @@
--- A plan file: lines of acts, before them maybe a line `plan`, and behind them maybe a line `end NUMERAL`.
+-- A plan file: lines of acts, before them maybe a line `plan`, and behind them maybe a line `end
+-- NUMERAL`.
 use Rattle.std.specs.Prelude.{◌≡◌, ℕ, ◌+◌, ◌^◌, ◌<◌, ◌≤◌, Bool, not, ◌&&◌, nat_lt, max, IsTrue, if◌then◌else◌, List, [], ◌∷◌, ◌++◌, ◌==◌, length, drop, bytes_eq, codes, Option, Some, None, Result, Ok, Err}
 use Rattle.std.specs.List.{list_all, filter, slice_split, starts_with}
 use Rattle.std.specs.List.Sorted.{IsPermutation}
@@ -32,9 +33,21 @@ abbrev pub numbered : ℕ → List (List ℕ) → List Numbered
 numbered n [] = []
 numbered n (text ∷ rest) = record { number = n; text = text } ∷ numbered (n + 1) rest
 
--- a line of which nothing is left but white space
+-- a line of which nothing but white space is left without its comment
 abbrev pub is_skipped : List ℕ → Bool
-is_skipped text = is_utf8 text && list_all is_blank (uncommented text)
+is_skipped text = list_all is_blank (uncommented text)
+
+-- a comment alone that is not UTF-8
+abbrev pub is_remark : List ℕ → Bool
+is_remark text = not (is_utf8 text) && is_skipped text
+
+-- the number of the first such line, where the first line has the number n
+abbrev pub remark : ℕ → List (List ℕ) → Option ℕ
+remark n [] = None
+remark n (text ∷ rest) = if is_remark text then Some n else remark (n + 1) rest
+
+abbrev pub first_remark : List ℕ → Option ℕ
+first_remark text = remark 1 (slice_split (is_mark 10) text)
 
 abbrev pub says : Numbered → Bool
 says x = not (is_skipped x.text)
@@ -103,7 +116,8 @@ at_number n (Err fault) = Err (at_line n fault)
 abbrev pub lasts : Timed → Bool
 lasts x = nat_lt (x.start + x.length) (2 ^ 63)
 
-abbrev pub with_act : Result Timed PlanFault → Result (List Timed) PlanFault → Result (List Timed) PlanFault
+abbrev pub with_act : Result Timed PlanFault → Result (List Timed) PlanFault
+    → Result (List Timed) PlanFault
 with_act (Ok act) acts = one_more act acts
 with_act (Err fault) acts = Err fault
 
@@ -131,7 +145,8 @@ abbrev pub at_end : List Timed → ℕ → Result ℕ Fault → Result Plan Plan
 at_end acts n (Ok end) = Ok (record { acts = acts; end = end })
 at_end acts n (Err fault) = Err (at_line n fault)
 
-abbrev pub with_end : Problem → Option Numbered → Result (List Timed) PlanFault → Result Plan PlanFault
+abbrev pub with_end : Problem → Option Numbered → Result (List Timed) PlanFault
+    → Result Plan PlanFault
 with_end p x (Err fault) = Err fault
 with_end p None (Ok acts) = Ok (record { acts = acts; end = reach acts })
 with_end p (Some x) (Ok acts) = at_end acts x.number (end_of p x.text)
@@ -139,9 +154,24 @@ with_end p (Some x) (Ok acts) = at_end acts x.number (end_of p x.text)
 abbrev pub body_plan : Problem → List Numbered → Result Plan PlanFault
 body_plan p body = with_end p (end_line body) (acts_of p (endless body))
 
--- the plan that a text says, its acts as they stand there, or the fault of the first line that has one
+-- of a fault and of `Shape` at line n, the one whose line comes first
+abbrev pub sooner : ℕ → PlanFault → PlanFault
+sooner n (faults.Shape k) = if nat_lt k n then faults.Shape k else faults.Shape n
+sooner n (faults.UnknownAction k) = if nat_lt k n then faults.UnknownAction k else faults.Shape n
+sooner n (faults.NotWhole k) = if nat_lt k n then faults.NotWhole k else faults.Shape n
+sooner n (faults.TooLarge k) = if nat_lt k n then faults.TooLarge k else faults.Shape n
+sooner n faults.NoMemory = faults.NoMemory
+
+-- a comment that is not UTF-8 is a fault at its line, also behind the line `end ..`
+abbrev pub with_remark : Option ℕ → Result Plan PlanFault → Result Plan PlanFault
+with_remark None read = read
+with_remark (Some n) (Ok plan) = Err (faults.Shape n)
+with_remark (Some n) (Err fault) = Err (sooner n fault)
+
+-- the plan that a text says, its acts as they stand there, or the fault of the first line that has
+-- one
 abbrev pub written_plan : Problem → List ℕ → Result Plan PlanFault
-written_plan p text = body_plan p (headless (kept text))
+written_plan p text = with_remark (first_remark text) (body_plan p (headless (kept text)))
 
 -- a plan is another one with its acts in order
 pub record IsPutInOrder (written plan : Plan) : Type 0 where
@@ -158,13 +188,14 @@ abbrev pub IsFaultOf : {A : Type 0} → Result A PlanFault → PlanFault → Typ
 IsFaultOf answer faults.NoMemory = Unit {0}
 IsFaultOf answer fault = answer ≡ Err fault
 
--- What is read of a text: its plan with the acts in order, or its first fault; or memory was refused.
+-- What is read of a text: its plan with the acts in order, or its first fault; or memory was
+-- refused.
 abbrev pub IsReading : Problem → List ℕ → Result Plan PlanFault → Type 0
 IsReading p text (Ok plan) = IsOrdered (written_plan p text) plan
 IsReading p text (Err fault) = IsFaultOf (written_plan p text) fault
 
--- What is known of each plan that is read of a text: its acts are in order, of the problem's actions, and end below 2^63, as
--- the plan does; and they are no more than the text can have lines.
+-- What is known of each plan that is read of a text: its acts are in order, of the problem's
+-- actions, and end below 2^63, as the plan does; and they are no more than the text can have lines.
 pub record IsBounded (p : Problem) (text : List ℕ) (plan : Plan) : Type 0 where
   pub in_order : IsTrue (each_next act_before plan.acts)
   pub known : IsTrue (list_all (λ x. nat_lt x.action (length p.actions)) plan.acts)

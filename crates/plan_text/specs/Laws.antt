@@ -15,7 +15,9 @@ use Rattle.plan_text.specs.declared.fault.PlanFault.TheVariants as faults
 
 -- an act of the problem, of length 0 where its action is instant, that ends below 2^63
 abbrev pub is_act_of : Problem → Timed → Bool
-is_act_of p x = nat_lt x.action (length p.actions) && (is_durative p x.action || x.length == 0) && nat_lt (x.start + x.length) (2 ^ 63)
+is_act_of p x =
+    nat_lt x.action (length p.actions) && (is_durative p x.action || x.length == 0)
+    && nat_lt (x.start + x.length) (2 ^ 63)
 
 -- which plans their texts say wholly
 pub record IsOrderly (p : Problem) (plan : Plan) : Type 0 where
@@ -26,4 +28,5 @@ pub record IsOrderly (p : Problem) (plan : Plan) : Type 0 where
 -- whatever a reader answers on the text of such a plan is that plan, unless memory is refused
 abbrev pub ReadsBack : Type 0
 ReadsBack = (p : Problem) (plan : Plan) → IsWellFormed p → IsOrderly p plan
-    → (r : Result Plan PlanFault) → IsReading p (plan_text p plan) r → (r ≡ Ok plan) ⊎ (r ≡ Err faults.NoMemory)
+    → (r : Result Plan PlanFault) → IsReading p (plan_text p plan) r
+    → (r ≡ Ok plan) ⊎ (r ≡ Err faults.NoMemory)

@@ -21,8 +21,8 @@ abbrev pub unindented : List ℕ → List ℕ
 unindented [] = []
 unindented (b ∷ rest) = if is_blank b then unindented rest else b ∷ rest
 
--- what follows a word's byte, or follows white space behind one: a space stands for each run of white space that a word
--- follows
+-- what follows a word's byte, or follows white space behind one: a space stands for each run of
+-- white space that a word follows
 abbrev pub spaced_behind : Bool → List ℕ → List ℕ
 spaced_behind blank [] = []
 spaced_behind blank (b ∷ rest) =

@@ -14,7 +14,8 @@ use std::alloc::Global;
 use std::str;
 use tp_spec::{Action, Problem, Timed};
 
-/// The texts of the parts of an act's line; the length stands between brackets, where those are there.
+/// The texts of the parts of an act's line; the length stands between brackets, where those are
+/// there.
 #[derive(Clone, Copy)]
 struct Parts<'a> {
     start: &'a [u8],
@@ -39,7 +40,8 @@ fn are_words(text: &[u8]) -> bool
     !has_mark(b'(', text) && !is_all_blank(text)
 }
 
-/// What stands between brackets behind white space: none where nothing is there, and no answer where something else is.
+/// What stands between brackets behind white space: none where nothing is there, and no answer
+/// where something else is.
 fn length_part(text: &[u8]) -> Option<Option<&[u8]>>
     ensures { option_map (λ l. option_map (λ t. t.now) l) result ≡ length_part text.now }
 {
@@ -61,7 +63,11 @@ fn length_part(text: &[u8]) -> Option<Option<&[u8]>>
 
 /// The parts of a line without its comment, where it is the line of an act.
 fn parts_of(text: &[u8]) -> Option<Parts<'_>>
-    ensures { option_map (λ x. record { start = x.start.now; name = x.name.now; length = option_map (λ t. t.now) x.length }) result ≡ parts_of text.now }
+    ensures { option_map (λ x. record {
+      start = x.start.now;
+      name = x.name.now;
+      length = option_map (λ t. t.now) x.length;
+    }) result ≡ parts_of text.now }
 {
     let (start, rest) = cut(b':', text)?;
     let inner = behind(b'(', rest)?;
@@ -147,7 +153,13 @@ fn named(action: Option<u32>, start: Amount, length: Amount) -> Result<Timed, Fa
 
 /// The act of its parts.
 fn act_from(alloc: Global, problem: &Problem, parts: Parts<'_>) -> Result<Timed, Fault>
-    ensures answer { Gives result (act_from problem.now (Some (record { start = parts.entry.start.now; name = parts.entry.name.now; length = option_map (λ t. t.now) parts.entry.length }))) }
+    ensures answer { Gives result (act_from problem.now
+        (Some (record {
+          start = parts.entry.start.now;
+          name = parts.entry.name.now;
+          length = option_map
+              (λ t. t.now) parts.entry.length;
+        }))) }
     ensures short { IfOk result (λ x. x.start + x.length < 2 ^ 63) }
 {
     let scale = scale_of(problem);
@@ -157,10 +169,10 @@ fn act_from(alloc: Global, problem: &Problem, parts: Parts<'_>) -> Result<Timed,
     named(action_of(problem, &name), start, length)
 }
 
-/// The act that a line says: `NUMERAL : ( words )`, and maybe `[ NUMERAL ]` behind it, with white space between the
-/// parts, behind it maybe a comment, in upper or lower case. The start, and the length between brackets, are in units
-/// of time. A fault of its form comes before an unknown name, that before a number that is not whole, and that before
-/// one that is too large.
+/// The act that a line says: `NUMERAL : ( words )`, and maybe `[ NUMERAL ]` behind it, with white
+/// space between the parts, behind it maybe a comment, in upper or lower case. The start, and the
+/// length between brackets, are in units of time. A fault of its form comes before an unknown name,
+/// that before a number that is not whole, and that before one that is too large.
 pub fn act_of(alloc: Global, problem: &Problem, line: &[u8]) -> Result<Timed, Fault>
     ensures answer { Gives result (act_of problem.now line.now) }
     ensures short { IfOk result (λ x. x.start + x.length < 2 ^ 63) }

@@ -6,7 +6,8 @@ use crate::fault::Fault;
 use pddl_tokens::{NumberFault, Word, number};
 use tp_spec::List;
 
-/// A number of ticks that a numeral says, or why it says none: it is not whole at the scale, or above 2^63 - 1.
+/// A number of ticks that a numeral says, or why it says none: it is not whole at the scale, or
+/// above 2^63 - 1.
 #[derive(Clone, Copy, Debug, PartialEq, Eq)]
 pub enum Amount {
     Ticks(u64),

@@ -7,11 +7,10 @@ mod fault;
 mod law;
 mod pieces;
 mod read;
-#[cfg(test)]
-mod tests;
 mod write;
 
 pub use fault::PlanFault;
 pub use law::{parts_are_rows, reads_back};
+pub use line_text::{push_bytes, push_number, push_tick};
 pub use read::read_plan;
-pub use write::{push_act, push_bytes, push_number, push_tick, write_plan};
+pub use write::{push_act, write_plan};

@@ -5,7 +5,7 @@ ghost use Rattle.std.specs.Option.{option_map};
 ghost use Rattle.tp_spec.specs.Lists.{each_next};
 ghost use Rattle.tp_spec.specs.Courses.{act_before};
 ghost use Rattle.plan_text.specs.Acts.{act_of, amount_of, Gives};
-ghost use Rattle.plan_text.specs.Files.{Numbered, seen, is_skipped, kept, words, is_head, is_end, headless, endless, end_line, at_number, acts_of, reach, lasts, whole, end_of, with_end, body_plan, IsFaultOf, IsReading, IsBounded};
+ghost use Rattle.plan_text.specs.Files.{Numbered, seen, is_skipped, is_remark, first_remark, kept, words, is_head, is_end, headless, endless, end_line, at_number, acts_of, reach, lasts, whole, end_of, with_end, body_plan, written_plan, IsFaultOf, IsReading, IsBounded};
 
 use crate::act_line::{act_of, is_utf8};
 use crate::amount::{Amount, amount_of};
@@ -18,20 +18,54 @@ use tp_spec::{List, NoMemory, Plan, Problem, Timed};
 /// A line with its number, from 1.
 #[derive(Clone, Copy)]
 struct Line<'a> {
-    number: u64,
+    number: u32,
     text: &'a [u8],
 }
 
-/// Whether nothing is left of a line but white space.
+/// Whether nothing but white space is left of a line without its comment.
 fn is_skipped(line: &[u8]) -> bool
     ensures { result ≡ is_skipped line.now }
 {
-    is_utf8(line) && is_all_blank(uncommented(line))
+    is_all_blank(uncommented(line))
+}
+
+/// Whether a line has a comment alone, and is not UTF-8.
+fn is_remark(line: &[u8]) -> bool
+    ensures { result ≡ is_remark line.now }
+{
+    !is_utf8(line) && is_skipped(line)
+}
+
+/// The number of the first line that has a comment alone and is not UTF-8.
+fn first_remark(text: &[u8]) -> Option<u32>
+    requires { length text.now < 2 ^ 31 }
+    ensures { result ≡ first_remark text.now }
+{
+    let mut number = 1;
+    let mut rest = text;
+    loop {
+        match cut(b'\n', rest) {
+            Some((line, behind)) => {
+                if is_remark(line) {
+                    return Some(number);
+                }
+                number += 1;
+                rest = behind;
+            }
+            None => {
+                if is_remark(rest) {
+                    return Some(number);
+                }
+                return None;
+            }
+        }
+    }
 }
 
 /// Puts a line behind the others, unless nothing is left of it.
-fn keep<'a>(lines: &mut Vec<Line<'a>>, number: u64, text: &'a [u8]) -> Result<(), NoMemory>
-    ensures { OnOk result (map seen lines.new.items ≡ map seen lines.old.items ++ (if is_skipped text.now then [] else record { number = number; text = text.now } ∷ [])) }
+fn keep<'a>(lines: &mut Vec<Line<'a>>, number: u32, text: &'a [u8]) -> Result<(), NoMemory>
+    ensures { OnOk result (map seen lines.new.items ≡ map seen lines.old.items
+        ++ (if is_skipped text.now then [] else record { number = number; text = text.now } ∷ [])) }
 {
     if is_skipped(text) {
         return Ok(());
@@ -44,6 +78,7 @@ fn keep<'a>(lines: &mut Vec<Line<'a>>, number: u64, text: &'a [u8]) -> Result<()
 
 /// The lines of a text that say something.
 fn kept(alloc: Global, text: &[u8]) -> Result<Vec<Line<'_>>, NoMemory>
+    requires { length text.now < 2 ^ 31 }
     ensures { IfOk result (λ v. map seen v.items ≡ kept text.now) }
 {
     let mut lines = Vec::new(alloc);
@@ -134,7 +169,8 @@ fn split_end<'a, 'b>(
 fn act_at(alloc: Global, problem: &Problem, line: &Line<'_>) -> Result<Timed, PlanFault>
     ensures act { IfOk result (λ x. act_of problem.now line.now.text.now ≡ Ok x) }
     ensures short { IfOk result (λ x. x.start + x.length < 2 ^ 63) }
-    ensures fault { IfErr result (IsFaultOf (at_number line.now.number (act_of problem.now line.now.text.now))) }
+    ensures fault { IfErr result (IsFaultOf
+        (at_number line.now.number (act_of problem.now line.now.text.now))) }
 {
     match act_of(alloc, problem, line.text) {
         Ok(act) => Ok(act),
@@ -213,8 +249,10 @@ fn end_by(
     acts: &[Timed],
 ) -> Result<u64, PlanFault>
     requires { IsTrue (list_all lasts acts.now) }
-    ensures end { IfOk result (λ e. with_end problem.now (option_map seen line.entry) (Ok acts.now) ≡ Ok (record { acts = acts.now; end = e })) }
-    ensures fault { IfErr result (IsFaultOf (with_end problem.now (option_map seen line.entry) (Ok acts.now))) }
+    ensures end { IfOk result (λ e. with_end problem.now (option_map seen line.entry) (Ok acts.now)
+        ≡ Ok (record { acts = acts.now; end = e })) }
+    ensures fault { IfErr result (IsFaultOf
+        (with_end problem.now (option_map seen line.entry) (Ok acts.now))) }
 {
     match line {
         None => Ok(reach(acts)),
@@ -231,13 +269,38 @@ fn body_plan(
     problem: &Problem,
     lines: &[Line<'_>],
 ) -> Result<(Vec<Timed>, u64), PlanFault>
-    ensures plan { IfOk result (λ r. body_plan problem.now (map seen lines.now) ≡ Ok (record { acts = r.0.items; end = r.1 })) }
+    ensures plan { IfOk result (λ r. body_plan problem.now (map seen lines.now)
+        ≡ Ok (record { acts = r.0.items; end = r.1 })) }
     ensures fault { IfErr result (IsFaultOf (body_plan problem.now (map seen lines.now))) }
 {
     let (body, last) = split_end(alloc, lines)?;
     let acts = acts_of(alloc, problem, body)?;
     let end = end_by(alloc, problem, last, &acts)?;
     Ok((acts, end))
+}
+
+/// The plan of a text, its acts as they stand there.
+fn written_plan(
+    alloc: Global,
+    problem: &Problem,
+    text: &[u8],
+) -> Result<(Vec<Timed>, u64), PlanFault>
+    requires { length text.now < 2 ^ 31 }
+    ensures plan { IfOk result (λ r.
+        written_plan problem.now text.now
+        ≡ Ok (record { acts = r.0.items; end = r.1 })) }
+    ensures fault { IfErr result (IsFaultOf (written_plan problem.now text.now)) }
+{
+    let lines = kept(alloc, text)?;
+    let body = headless(alloc, &lines)?;
+    let read = body_plan(alloc, problem, body);
+    match first_remark(text) {
+        None => read,
+        Some(line) => match read {
+            Ok(_) => Err(PlanFault::Shape { line }),
+            Err(fault) => Err(fault.sooner(line)),
+        },
+    }
 }
 
 /// Puts acts in order by start, action and length.
@@ -251,18 +314,18 @@ fn put_in_order(acts: &mut Vec<Timed>) -> Result<(), NoMemory>
     }
 }
 
-/// The plan of a text in the form of plan files: a line for each act, before them maybe a line `plan`, and behind them
-/// maybe a line `end NUMERAL`, without which the plan ends with its last act. Comments and lines of white space are
-/// passed over, and the acts are put in order. Or the fault of the first line that has one.
+/// The plan of a text of less than 2^31 bytes in the form of plan files: a line for each act,
+/// before them maybe a line `plan`, and behind them maybe a line `end NUMERAL`, without which the
+/// plan ends with its last act. Comments and lines of white space are passed over, and the acts are
+/// put in order. Or the fault of the first line that has one.
 ///
 /// The lines of plans as planners for PDDL 2.1 write them and the validator VAL reads them.
 pub fn read_plan(alloc: Global, problem: &Problem, text: &[u8]) -> Result<Plan, PlanFault>
+    requires { length text.now < 2 ^ 31 }
     ensures reads { IsReading problem.now text.now result }
     ensures bounded { IfOk result (IsBounded problem.now text.now) }
 {
-    let lines = kept(alloc, text)?;
-    let body = headless(alloc, &lines)?;
-    let (mut acts, end) = body_plan(alloc, problem, body)?;
+    let (mut acts, end) = written_plan(alloc, problem, text)?;
     put_in_order(&mut acts)?;
     Ok(Plan {
         acts: List::of(acts),

@@ -4,54 +4,9 @@ ghost use Rattle.pddl_tokens.specs.Numbers.{IsScale};
 ghost use Rattle.tp_spec.specs.Items.{is_durative};
 ghost use Rattle.tp_spec.specs.Texts.{tick_text, name_text, act_text, plan_text};
 
-use itoa::Buffer;
+use line_text::{push_bytes, push_tick};
 use std::alloc::Global;
 use tp_spec::{Action, Kind, NoMemory, Plan, Problem, Timed};
-
-/// Puts bytes behind a text.
-pub fn push_bytes(text: &mut Vec<u8>, bytes: &[u8]) -> Result<(), NoMemory>
-    ensures { OnOk result (text.new.items ≡ text.old.items ++ bytes.now) }
-{
-    match text.extend_from_slice(bytes) {
-        Ok(()) => Ok(()),
-        Err(_) => Err(NoMemory),
-    }
-}
-
-/// Puts a number's decimal digits behind a text.
-pub fn push_number(text: &mut Vec<u8>, number: u64) -> Result<(), NoMemory>
-    ensures { OnOk result (text.new.items ≡ text.old.items ++ decimal number) }
-{
-    let mut buffer = Buffer::new();
-    push_bytes(text, buffer.format(number).as_bytes())
-}
-
-/// Puts a point and a number's digits but the first behind a text.
-fn push_part(text: &mut Vec<u8>, number: u64) -> Result<(), NoMemory>
-    ensures { OnOk result (text.new.items ≡ text.old.items ++ (codes "." ++ drop 1 (decimal number))) }
-{
-    let mut buffer = Buffer::new();
-    let digits = buffer.format(number).as_bytes();
-    push_bytes(text, b".")?;
-    match digits {
-        [_, rest @ ..] => push_bytes(text, rest),
-        [] => Ok(()),
-    }
-}
-
-/// Puts a tick behind a text, in units of time of `scale` ticks each: at scale 100 the tick 705 is `7.05`. Where memory
-/// is refused, a part of it may stand there.
-pub fn push_tick(text: &mut Vec<u8>, scale: u32, tick: u64) -> Result<(), NoMemory>
-    requires { 0 < scale }
-    ensures { OnOk result (text.new.items ≡ text.old.items ++ tick_text scale tick) }
-{
-    let scale = u64::from(scale);
-    push_number(text, tick / scale)?;
-    if scale == 1 {
-        return Ok(());
-    }
-    push_part(text, scale + tick % scale)
-}
 
 /// How many ticks are in the problem's unit of time.
 pub fn scale_of(problem: &Problem) -> u32
@@ -85,15 +40,16 @@ fn is_durative(problem: &Problem, action: u32) -> bool
 /// Puts a length in brackets behind a text.
 fn push_length(text: &mut Vec<u8>, scale: u32, length: u64) -> Result<(), NoMemory>
     requires { 0 < scale }
-    ensures { OnOk result (text.new.items ≡ text.old.items ++ (codes " [" ++ tick_text scale length ++ codes "]")) }
+    ensures { OnOk result (text.new.items ≡ text.old.items
+        ++ (codes " [" ++ tick_text scale length ++ codes "]")) }
 {
     push_bytes(text, b" [")?;
     push_tick(text, scale, length)?;
     push_bytes(text, b"]")
 }
 
-/// Puts an act behind a text: `START: (NAME)`, and for a durative action ` [LENGTH]` behind it. Where memory is refused,
-/// a part of it may stand there.
+/// Puts an act behind a text: `START: (NAME)`, and for a durative action ` [LENGTH]` behind it.
+/// Where memory is refused, a part of it may stand there.
 ///
 /// The form of PDDL plan lines.
 pub fn push_act(text: &mut Vec<u8>, problem: &Problem, act: &Timed) -> Result<(), NoMemory>
@@ -113,7 +69,8 @@ pub fn push_act(text: &mut Vec<u8>, problem: &Problem, act: &Timed) -> Result<()
 
 /// Puts acts behind a text, a line each.
 fn push_acts(text: &mut Vec<u8>, problem: &Problem, acts: &[Timed]) -> Result<(), NoMemory>
-    ensures { OnOk result (text.new.items ≡ text.old.items ++ flat_map (λ x. act_text problem.now x ++ codes "\n") acts.now) }
+    ensures { OnOk result (text.new.items ≡ text.old.items
+        ++ flat_map (λ x. act_text problem.now x ++ codes "\n") acts.now) }
 {
     for act in acts {
         push_act(text, problem, act)?;
@@ -122,7 +79,8 @@ fn push_acts(text: &mut Vec<u8>, problem: &Problem, acts: &[Timed]) -> Result<()
     Ok(())
 }
 
-/// The text of a plan: a line `plan`, a line for each act in order, and a line `end` with the tick at which it ends.
+/// The text of a plan: a line `plan`, a line for each act in order, and a line `end` with the tick
+/// at which it ends.
 pub fn write_plan(alloc: Global, problem: &Problem, plan: &Plan) -> Result<Vec<u8>, NoMemory>
     ensures { IfOk result (λ t. t.items ≡ plan_text problem.now plan.now) }
 {

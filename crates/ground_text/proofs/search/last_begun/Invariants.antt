@@ -1,6 +1,6 @@
 use Rattle.std.proofs.Common.{◌-◌, ◌+◌, ◌≤◌, ◌<◌, length}
 use Rattle.ground_text.specs.Reading.{parts_at}
-use Rattle.ground_text.specs.Faults.{lines}
+use Rattle.line_text.specs.Lines.{lines}
 use Rattle.ground_text.specs.Completion.{completed, NoneBegins, SomeBegins}
 use Rattle.ground_text.proofs.search.last_begun.Given as goal
 

@@ -6,6 +6,6 @@ use Rattle.ground_text.proofs.writing.put_header.Goals as goal
 pub returns : goal.returns
 unfolding header_text
 returns c =
-    c.in_ok-put_number.ensures
-    ∙ (λ i. c.in_ok-extend_from_slice.ensures.items i ++ decimal (c.from.ensures i))
+    c.in_ok-push_number.ensures
+    ∙ (λ i. c.in_ok-push_bytes.ensures i ++ decimal (c.from.ensures i))
     ∙ append_assoc c.args.out.now.items (codes "ground 1\nscale ") (decimal c.args.scale)

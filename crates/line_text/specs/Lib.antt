@@ -1,0 +1,4 @@
+pub mod Lines
+pub mod FirstFault
+pub mod Written
+pub mod Numbers

@@ -1,0 +1,3 @@
+pub mod Regroup
+pub mod Tested
+pub mod Distinct
