@@ -7,8 +7,8 @@ use Rattle.tp_world.specs.Contents.{FilesView}
 use Rattle.tp_world.specs.Loads.{Wanted, AreLoaded, AsksFront}
 use Rattle.tp_world.specs.Sinks.{SinkView}
 use Rattle.tp_world.specs.Views.{Outside, ClockView}
-use Rattle.ground_text.specs.declared.fault.LineFault.{LineFault}
-use Rattle.ground_text.specs.declared.fault.LineFault.TheVariants as line_faults
+use Rattle.tp_spec.specs.declared.fault.LineFault.{LineFault}
+use Rattle.tp_spec.specs.declared.fault.LineFault.TheVariants as line_faults
 use Rattle.run_cli.specs.Orders.{Answers, fault_text, is_memory}
 use Rattle.run_cli.specs.Plainness.{IsFaultyText, TellsWhy}
 use Rattle.run_cli.specs.Printing.{Prints, PrintsNothing}

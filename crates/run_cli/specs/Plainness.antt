@@ -4,18 +4,18 @@ use Rattle.tp_spec.specs.declared.problem.Problem.{Problem}
 use Rattle.tp_spec.specs.Plain.{is_plain}
 use Rattle.tp_spec.specs.WellFormed.{IsWellFormed}
 use Rattle.tp_laws.specs.Early.{IsPlain}
-use Rattle.ground_text.specs.Faults.{TellsFault}
-use Rattle.ground_text.specs.Kept.{IsProblem}
+use Rattle.line_text.specs.FirstFault.{TellsFault}
+use Rattle.ground_text.specs.Grammar.{IsProblemText}
 use Rattle.ground_text.specs.Texts.{problem_text}
-use Rattle.ground_text.specs.declared.fault.LineFault.{LineFault}
-use Rattle.ground_text.specs.declared.fault.LineFault.TheVariants as line_faults
+use Rattle.tp_spec.specs.declared.fault.LineFault.{LineFault}
+use Rattle.tp_spec.specs.declared.fault.LineFault.TheVariants as line_faults
 use Rattle.run_cli.specs.declared.reader.PlainFault.{PlainFault}
 use Rattle.run_cli.specs.declared.reader.PlainFault.TheVariants.{NotBuilt, Refused}
 
 -- a text is this problem's, and no other problem's
 pub record IsTextOf (text : List ℕ) (p : Problem) : Type 0 where
   pub is : text ≡ problem_text p
-  pub only : (q : Problem) → IsProblem q → text ≡ problem_text q → q ≡ p
+  pub only : (q : Problem) → IsWellFormed q → text ≡ problem_text q → q ≡ p
 
 -- a text is that of a plain problem
 pub record IsPlainText (text : List ℕ) (p : Problem) : Type 0 where
@@ -31,8 +31,8 @@ pub record IsUnbuiltText (text : List ℕ) : Type 0 where
 
 -- a text is no problem's, and this is its fault; nothing is said where memory was refused
 pub record IsFaultyText (text : List ℕ) (fault : LineFault) : Type 0 where
-  pub none : (p : Problem) → IsProblem p → text ≡ problem_text p → fault ≡ line_faults.NoMemory
-  pub tells : TellsFault fault text
+  pub none : (p : Problem) → IsWellFormed p → text ≡ problem_text p → fault ≡ line_faults.NoMemory
+  pub tells : TellsFault IsProblemText fault text
 
 -- why a text gives no plain problem
 abbrev pub TellsWhy : List ℕ → PlainFault → Type 0

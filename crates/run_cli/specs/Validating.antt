@@ -7,10 +7,10 @@ use Rattle.tp_spec.specs.declared.problem.Problem.{Problem}
 use Rattle.tp_spec.specs.WellFormed.{IsWellFormed}
 use Rattle.tp_world.specs.Contents.{FilesView}
 use Rattle.tp_world.specs.Loads.{Wanted, AreLoaded}
-use Rattle.ground_text.specs.Faults.{TellsFault}
-use Rattle.ground_text.specs.Kept.{IsProblem}
+use Rattle.line_text.specs.FirstFault.{TellsFault}
+use Rattle.ground_text.specs.Grammar.{IsProblemText}
 use Rattle.ground_text.specs.Texts.{problem_text}
-use Rattle.ground_text.specs.declared.fault.LineFault.{LineFault}
+use Rattle.tp_spec.specs.declared.fault.LineFault.{LineFault}
 use Rattle.plan_text.specs.Files.{IsReading}
 use Rattle.plan_text.specs.declared.fault.PlanFault.{PlanFault}
 use Rattle.plan_validator.specs.Verdicts.{IsVerdict}
@@ -43,8 +43,8 @@ pub record RefusesPlan (p : Problem) (bytes line : List ℕ) : Type 0 where
 -- a text is no problem's
 pub record RefusesGround (text line : List ℕ) : Type 0 where
   pub fault : LineFault
-  pub none : (p : Problem) → IsProblem p → text ≢ problem_text p
-  pub tells : TellsFault fault text
+  pub none : (p : Problem) → IsWellFormed p → text ≢ problem_text p
+  pub tells : TellsFault IsProblemText fault text
   pub line_is : ground_line fault ≡ Some line
 
 -- what a plan file gives of a problem

@@ -1,19 +1,12 @@
 -- What `validate` prints.
 use Rattle.std.specs.Prelude.{ℕ, List, ◌++◌, Option, Some, None, codes, decimal}
-use Rattle.tp_spec.specs.declared.plan.Item.{Item}
-use Rattle.tp_spec.specs.declared.plan.Item.TheVariants.{TimedAt, End, Start}
-use Rattle.ground_text.specs.declared.fault.LineFault.{LineFault}
-use Rattle.ground_text.specs.declared.fault.LineFault.TheVariants as ground_faults
+use Rattle.tp_spec.specs.declared.fault.LineFault.{LineFault}
+use Rattle.tp_spec.specs.declared.fault.LineFault.TheVariants as ground_faults
+use Rattle.line_text.specs.Written.{item_text}
 use Rattle.plan_text.specs.declared.fault.PlanFault.{PlanFault}
 use Rattle.plan_text.specs.declared.fault.PlanFault.TheVariants as plan_faults
 use Rattle.plan_validator.specs.declared.verdict.Verdict.{Verdict}
 use Rattle.plan_validator.specs.declared.verdict.Verdict.TheVariants.{Valid, TooLong, TwiceAt, LengthOut, Overlap, EndOff, Clash, Unmet, Overflow, Broken, GoalUnmet}
-
--- the timed item k is `Tk`, the end of the action a is `Ea`, its start `Sa`
-abbrev pub item_text : Item → List ℕ
-item_text (TimedAt k) = codes "T" ++ decimal k
-item_text (End a) = codes "E" ++ decimal a
-item_text (Start a) = codes "S" ++ decimal a
 
 -- `valid`, or `invalid` with the name of the verdict and its numbers in order; ticks at every scale
 abbrev pub verdict_text : Verdict → List ℕ

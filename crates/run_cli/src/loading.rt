@@ -6,7 +6,7 @@ ghost use Rattle.run_cli.specs.Stopping.{IsStop, role_name, file_of, ground_file
 use crate::answer::Answer;
 use crate::reader::{PlainFault, read_plain};
 use crate::verdicts::ground_line;
-use plan_text::{push_bytes, push_number};
+use line_text::{push_bytes, push_number};
 use std::alloc::Global;
 use tp_spec::{NoMemory, Problem};
 use tp_world::{Files, LoadFault};

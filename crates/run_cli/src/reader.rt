@@ -1,13 +1,10 @@
-ghost use Rattle.std.specs.Prelude.{◌≡◌, ◌&&◌, not, IfOk, IfErr};
-ghost use Rattle.std.specs.List.{list_all};
-ghost use Rattle.tp_spec.specs.Items.{is_durative_kind};
-ghost use Rattle.tp_spec.specs.Lists.{is_empty};
-ghost use Rattle.tp_spec.specs.Plain.{is_plain as is_plain_of, is_plain_action as is_plain_action_of, is_literal as is_literal_of};
+ghost use Rattle.std.specs.Prelude.{◌<◌, ◌^◌, length, IfOk, IfErr};
 ghost use Rattle.run_cli.specs.Plainness.{IsPlainText, TellsWhy};
 
-use ground_text::{LineFault, read_problem_text};
+use ground_text::read_problem_text;
+use problem_rules::is_plain;
 use std::alloc::Global;
-use tp_spec::{Action, Cond, Kind, Problem};
+use tp_spec::{LineFault, Problem};
 
 /// Why a ground text gives no plain problem.
 #[derive(Clone, Copy, Debug, PartialEq, Eq)]
@@ -18,8 +15,9 @@ pub enum PlainFault {
     Refused { fault: LineFault },
 }
 
-/// The plain problem whose ground text this is.
+/// The plain problem whose ground text this is, of less than 2^31 bytes.
 pub fn read_plain(alloc: Global, text: &[u8]) -> Result<Problem, PlainFault>
+    requires { length text.now < 2 ^ 31 }
     ensures plain { IfOk result (IsPlainText text.now) }
     ensures fault { IfErr result (TellsWhy text.now) }
 {
@@ -32,58 +30,5 @@ pub fn read_plain(alloc: Global, text: &[u8]) -> Result<Problem, PlainFault>
             }
         }
         Err(fault) => Err(PlainFault::Refused { fault }),
-    }
-}
-
-/// Whether every action of a problem is instant, and there are no fluents, no timed items and no
-/// comparisons.
-fn is_plain(problem: &Problem) -> bool
-    ensures { result ≡ is_plain_of problem.now }
-{
-    is_still(problem)
-        && are_plain_actions(problem.actions.as_slice())
-        && are_literals(problem.goal.as_slice())
-}
-
-/// Whether there are no fluents and no timed items.
-fn is_still(problem: &Problem) -> bool
-    ensures { result ≡ (is_empty problem.now.fluents && is_empty problem.now.timed) }
-{
-    problem.fluents.as_slice().is_empty() && problem.timed.as_slice().is_empty()
-}
-
-fn are_plain_actions(actions: &[Action]) -> bool
-    ensures { result ≡ list_all is_plain_action_of actions.now }
-{
-    actions.iter().all(|action| is_plain_action(action))
-}
-
-fn is_plain_action(action: &Action) -> bool
-    ensures { result ≡ is_plain_action_of action.now }
-{
-    is_instant(&action.kind) && are_literals(action.start_conds.as_slice())
-}
-
-fn is_instant(kind: &Kind) -> bool
-    ensures { result ≡ not (is_durative_kind kind.now) }
-{
-    match kind {
-        Kind::Instant => true,
-        Kind::Durative { .. } => false,
-    }
-}
-
-fn are_literals(conds: &[Cond]) -> bool
-    ensures { result ≡ list_all is_literal_of conds.now }
-{
-    conds.iter().all(|cond| is_literal(cond))
-}
-
-fn is_literal(cond: &Cond) -> bool
-    ensures { result ≡ is_literal_of cond.now }
-{
-    match cond {
-        Cond::Lit { .. } => true,
-        Cond::Compare { .. } => false,
     }
 }

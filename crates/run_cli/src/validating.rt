@@ -58,7 +58,8 @@ fn text_answer(
     text: &[u8],
     bytes: &[u8],
 ) -> Result<Answer, NoMemory>
-    requires { length bytes.now ≤ 1048576 }
+    requires text { length text.now ≤ 1048576 }
+    requires bytes { length bytes.now ≤ 1048576 }
     ensures { IfOk result (λ a. IsTextAnswer limits.now text.now bytes.now a.status a.line.items) }
 {
     match read_problem_text(alloc, text) {

@@ -1,31 +1,12 @@
 ghost use Rattle.std.specs.Prelude.{◌≡◌, ◌++◌, Some, IfOk, OnOk, codes, decimal};
-ghost use Rattle.run_cli.specs.VerdictTexts.{item_text, verdict_text, ground_line, plan_line};
+ghost use Rattle.line_text.specs.Written.{item_text};
+ghost use Rattle.run_cli.specs.VerdictTexts.{verdict_text, ground_line, plan_line};
 
-use ground_text::LineFault;
-use plan_text::{PlanFault, push_bytes, push_number};
+use line_text::{push_bytes, push_item, push_number};
+use plan_text::PlanFault;
 use plan_validator::Verdict;
 use std::alloc::Global;
-use tp_spec::{Item, NoMemory};
-
-/// Puts a letter and an index behind a text.
-fn push_item(text: &mut Vec<u8>, item: Item) -> Result<(), NoMemory>
-    ensures { OnOk result (text.new.items ≡ text.old.items ++ item_text item) }
-{
-    match item {
-        Item::TimedAt(timed) => {
-            push_bytes(text, b"T")?;
-            push_number(text, u64::from(timed))
-        }
-        Item::End(action) => {
-            push_bytes(text, b"E")?;
-            push_number(text, u64::from(action))
-        }
-        Item::Start(action) => {
-            push_bytes(text, b"S")?;
-            push_number(text, u64::from(action))
-        }
-    }
-}
+use tp_spec::{Item, LineFault, NoMemory};
 
 /// A line of words and a number, with what follows it.
 fn numbered(alloc: Global, words: &[u8], number: u64, end: &[u8]) -> Result<Vec<u8>, NoMemory>
@@ -119,7 +100,9 @@ pub fn ground_line(alloc: Global, fault: LineFault) -> Result<Vec<u8>, NoMemory>
     ensures { IfOk result (λ t. ground_line fault ≡ Some t.items) }
 {
     match fault {
-        LineFault::Line { number } => { numbered(alloc, b"refused ground ", number, b" Line\n") }
+        LineFault::Line { number } => {
+            numbered(alloc, b"refused ground ", u64::from(number), b" Line\n")
+        }
         LineFault::NoMemory => Err(NoMemory),
     }
 }
@@ -128,13 +111,12 @@ pub fn ground_line(alloc: Global, fault: LineFault) -> Result<Vec<u8>, NoMemory>
 pub fn plan_line(alloc: Global, fault: PlanFault) -> Result<Vec<u8>, NoMemory>
     ensures { IfOk result (λ t. plan_line fault ≡ Some t.items) }
 {
-    match fault {
-        PlanFault::Shape { line } => numbered(alloc, b"refused plan ", line, b" Shape\n"),
-        PlanFault::UnknownAction { line } => {
-            numbered(alloc, b"refused plan ", line, b" UnknownAction\n")
-        }
-        PlanFault::NotWhole { line } => numbered(alloc, b"refused plan ", line, b" NotWhole\n"),
-        PlanFault::TooLarge { line } => numbered(alloc, b"refused plan ", line, b" TooLarge\n"),
-        PlanFault::NoMemory => Err(NoMemory),
-    }
+    let (line, end): (u32, &[u8]) = match fault {
+        PlanFault::Shape { line } => (line, b" Shape\n"),
+        PlanFault::UnknownAction { line } => (line, b" UnknownAction\n"),
+        PlanFault::NotWhole { line } => (line, b" NotWhole\n"),
+        PlanFault::TooLarge { line } => (line, b" TooLarge\n"),
+        PlanFault::NoMemory => return Err(NoMemory),
+    };
+    numbered(alloc, b"refused plan ", u64::from(line), end)
 }

@@ -7,7 +7,7 @@ ghost use Rattle.run_cli.specs.Orders.{gives, is_given, twice_faults, range_faul
 
 use crate::arguments::{Argument, arguments_of};
 use crate::options::{Command, Setting, command_named, name_of, number_in, range_of};
-use plan_text::{push_bytes, push_number};
+use line_text::{push_bytes, push_number};
 use std::alloc::Global;
 use thiserror::Error;
 use tp_spec::{Limits, Name, NoMemory};
