@@ -1,6 +1,6 @@
 -- The simple temporal network of a word: a variable for each group, then one for the end of each
--- act that runs after the word. After Dechter, Meiri and Pearl, 'Temporal constraint networks',
--- 1991.
+-- act that runs after the word.
+-- After Dechter, Meiri and Pearl, 'Temporal constraint networks', 1991.
 use Rattle.std.specs.Prelude.{ℕ, zero, suc, ◌+◌, ◌-◌, ◌≤◌, pos, negsuc, ◌-ℤ◌, not, ◌==◌, List, [], ◌∷◌, ◌++◌, length, map, Option, Some, None, if◌then◌else◌, slice_get, is_some}
 use Rattle.std.specs.List.{filter, flat_map, AllByRecursion as Each}
 use Rattle.tick_network.specs.declared.net.Row.{Row}
