@@ -3,10 +3,13 @@ use Rattle.std.specs.Prelude.{ℕ, Bool, true, false, not, ◌&&◌, if◌then�
 use Rattle.std.specs.Str.{bytes_eq}
 use Rattle.pddl_tokens.specs.Trees.{Trees, Leaf, Node, End, More}
 use Rattle.pddl_parts.specs.declared.faults.Fault.{Fault}
+use Rattle.domain_faults.specs.declared.heads.HeadKind.{HeadKind}
+use Rattle.domain_faults.specs.declared.heads.HeadKind.TheVariants.{Predicates, Functions}
 use Rattle.pddl_parts.specs.declared.typed.Part.{Part}
 use Rattle.pddl_parts.specs.declared.typed.Part.TheVariants.{Start, Items, Hyphen}
 use Rattle.pddl_parts.specs.declared.typed.Rule.{Rule}
-use Rattle.pddl_parts.specs.Words.{is_dash, is_symbol, is_thing, is_left_out, misfit_word, misfit_list, name_faults}
+use Rattle.pddl_parts.specs.Words.{is_dash, is_head_word, is_thing}
+use Rattle.pddl_parts.specs.Literals.{misfit_word, misfit_list, name_faults}
 use Rattle.pddl_parts.specs.Typed.{typed_faults, repeat_faults, end_faults, again_faults, with_item}
 
 -- variables, each of a type that is declared
@@ -15,14 +18,16 @@ parameters = record { variables = true; any_type = false }
 
 -- what is wrong with typed variables, each of them new
 abbrev pub variables_faults : List (List ℕ) → ℕ → Trees → List Fault
-variables_faults types close ts = typed_faults parameters types close Start ts ++ repeat_faults parameters [] Start ts
+variables_faults types close ts =
+    typed_faults parameters types close Start ts ++ repeat_faults parameters [] Start ts
 
 -- what is wrong with a head but for its name's being declared before
 abbrev pub head_faults : List (List ℕ) → ℕ → ℕ → Trees → List Fault
 head_faults types at close End = misfit_list at End
-head_faults types at close (More (Node first end parts) rest) = misfit_list at (More (Node first end parts) rest)
+head_faults types at close (More (Node first end parts) rest) =
+    misfit_list at (More (Node first end parts) rest)
 head_faults types at close (More (Leaf head text) rest) =
-    if is_symbol text && not (is_left_out text) then name_faults head text ++ variables_faults types close rest
+    if is_head_word text then name_faults head text ++ variables_faults types close rest
     else misfit_list at (More (Leaf head text) rest)
 
 -- a name that came before
@@ -37,7 +42,8 @@ with_head seen End = seen
 with_head seen (More (Node first end parts) rest) = seen
 with_head seen (More (Leaf head text) rest) = with_item (is_thing text) seen text
 
--- a word among functions: a hyphen directly behind a head, and `number` behind that; predicates have none
+-- a word among functions: a hyphen directly behind a head, and `number` behind that; predicates
+-- have none
 abbrev pub number_faults : Part → ℕ → List ℕ → List Fault
 number_faults Start at text = misfit_word at text
 number_faults Items at text = if is_dash text then [] else misfit_word at text
@@ -51,8 +57,10 @@ behind_word Hyphen text = Start
 
 -- a list among functions or predicates: a head, but none directly behind a hyphen
 abbrev pub listed_faults : List (List ℕ) → List (List ℕ) → Part → ℕ → ℕ → Trees → List Fault
-listed_faults types seen Start at close parts = again_head seen parts ++ head_faults types at close parts
-listed_faults types seen Items at close parts = again_head seen parts ++ head_faults types at close parts
+listed_faults types seen Start at close parts =
+    again_head seen parts ++ head_faults types at close parts
+listed_faults types seen Items at close parts =
+    again_head seen parts ++ head_faults types at close parts
 listed_faults types seen Hyphen at close parts = misfit_list at parts
 
 -- the names of heads, with that of this list where it is a head
@@ -62,15 +70,18 @@ with_listed seen Items parts = with_head seen parts
 with_listed seen Hyphen parts = seen
 
 -- what may follow a list: a hyphen only behind a function
-abbrev pub behind_list : Bool → Part → Part
-behind_list numbers Start = if numbers then Items else Start
-behind_list numbers Items = if numbers then Items else Start
-behind_list numbers Hyphen = Start
+abbrev pub behind_list : HeadKind → Part → Part
+behind_list Predicates part = Start
+behind_list Functions Start = Items
+behind_list Functions Items = Items
+behind_list Functions Hyphen = Start
 
--- what is wrong with the members of `:predicates`, or of `:functions`, where numbers may be named
-abbrev pub heads_faults : Bool → List (List ℕ) → ℕ → List (List ℕ) → Part → Trees → List Fault
-heads_faults numbers types close seen part End = end_faults part close
-heads_faults numbers types close seen part (More (Leaf at text) rest) =
-    number_faults part at text ++ heads_faults numbers types close seen (behind_word part text) rest
-heads_faults numbers types close seen part (More (Node at end parts) rest) =
-    listed_faults types seen part at end parts ++ heads_faults numbers types close (with_listed seen part parts) (behind_list numbers part) rest
+-- what is wrong with the members of `:predicates`, or of `:functions`
+abbrev pub heads_faults : HeadKind → List (List ℕ) → ℕ → List (List ℕ) → Part → Trees → List Fault
+heads_faults kind types close seen part End = end_faults part close
+heads_faults kind types close seen part (More (Leaf at text) rest) =
+    number_faults part at text ++ heads_faults kind types close seen (behind_word part text) rest
+heads_faults kind types close seen part (More (Node at end parts) rest) =
+    listed_faults types seen part at end parts
+    ++ heads_faults kind types close (with_listed seen part parts) (behind_list kind part)
+    rest

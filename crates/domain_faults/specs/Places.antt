@@ -7,11 +7,13 @@ use Rattle.pddl_parts.specs.declared.faults.Kind.TheVariants.{Shape}
 use Rattle.pddl_parts.specs.First.{fault}
 
 abbrev mutual
-  -- the places of the effects in a list that is an effect, where `()` and conjunctions are none themselves
+  -- the places of the effects in a list that is an effect, where `()` and conjunctions are none
+  -- themselves
   pub effect_places : ℕ → Trees → List ℕ
   effect_places at End = []
   effect_places at (More (Node first end parts) rest) = at ∷ []
-  effect_places at (More (Leaf head text) rest) = if bytes_eq text (codes "and") then effects_places rest else at ∷ []
+  effect_places at (More (Leaf head text) rest) =
+      if bytes_eq text (codes "and") then effects_places rest else at ∷ []
 
   pub effects_places : Trees → List ℕ
   effects_places End = []
@@ -28,7 +30,8 @@ labelled_places (More (Node at close parts) rest) = effect_places at parts
 abbrev pub at_places : List ℕ → Trees → List ℕ
 at_places label End = []
 at_places label (More (Node at close parts) rest) = []
-at_places label (More (Leaf at text) rest) = if bytes_eq text label then labelled_places rest else []
+at_places label (More (Leaf at text) rest) =
+    if bytes_eq text label then labelled_places rest else []
 
 abbrev mutual
   -- the places of the effects with this label, `start` or `end`
@@ -43,8 +46,10 @@ abbrev mutual
   pub all_timed_places : List ℕ → Trees → List ℕ
   all_timed_places label End = []
   all_timed_places label (More (Leaf at text) rest) = all_timed_places label rest
-  all_timed_places label (More (Node at close parts) rest) = timed_places label parts ++ all_timed_places label rest
+  all_timed_places label (More (Node at close parts) rest) =
+      timed_places label parts ++ all_timed_places label rest
 
 -- the first effect past the 4,096th; further ones stand behind it
 abbrev pub past_faults : List ℕ → List Fault
-past_faults places = if nat_lt 4096 (length places) then fault Shape (get_or places 4096 0) ∷ [] else []
+past_faults places =
+    if nat_lt 4096 (length places) then fault Shape (get_or places 4096 0) ∷ [] else []

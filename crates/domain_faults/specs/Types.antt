@@ -47,26 +47,33 @@ with_parent parents text (Some p) = with_value parents text p
 
 -- the first declaration of a type gives its parent
 abbrev pub with_first : List (List ℕ) → List (List ℕ × ℕ) → List ℕ → Option ℕ → List (List ℕ × ℕ)
-with_first seen parents text parent = if is_new seen text then with_parent parents text parent else parents
+with_first seen parents text parent =
+    if is_new seen text then with_parent parents text parent else parents
 
 -- each type that was declared before, and not so
-abbrev pub again_types : List (List ℕ) → List (List ℕ) → List (List ℕ × ℕ) → Part → Trees → List Fault
+abbrev pub again_types : List (List ℕ) → List (List ℕ) → List (List ℕ × ℕ) → Part → Trees
+    → List Fault
 again_types types seen parents part End = []
 again_types types seen parents part (More (Leaf at text) rest) =
     if is_item new_types part text then
     again_type seen parents at text (parent_behind types rest)
-    ++ again_types types (with_name seen text) (with_first seen parents text (parent_behind types rest)) (next part text) rest
+    ++ again_types types (with_name seen text)
+    (with_first seen parents text (parent_behind types rest)) (next part text) rest
     else again_types types seen parents (next part text) rest
-again_types types seen parents part (More (Node at close members) rest) = again_types types seen parents (next_of_list part) rest
+again_types types seen parents part (More (Node at close members) rest) =
+    again_types types seen parents (next_of_list part) rest
 
 -- the parents of the types, by their first declarations
-abbrev pub with_parents : List (List ℕ) → List (List ℕ) → List (List ℕ × ℕ) → Part → Trees → List (List ℕ × ℕ)
+abbrev pub with_parents : List (List ℕ) → List (List ℕ) → List (List ℕ × ℕ) → Part → Trees
+    → List (List ℕ × ℕ)
 with_parents types seen parents part End = parents
 with_parents types seen parents part (More (Leaf at text) rest) =
     if is_item new_types part text then
-    with_parents types (with_name seen text) (with_first seen parents text (parent_behind types rest)) (next part text) rest
+    with_parents types (with_name seen text)
+    (with_first seen parents text (parent_behind types rest)) (next part text) rest
     else with_parents types seen parents (next part text) rest
-with_parents types seen parents part (More (Node at close members) rest) = with_parents types seen parents (next_of_list part) rest
+with_parents types seen parents part (More (Node at close members) rest) =
+    with_parents types seen parents (next_of_list part) rest
 
 -- `object` counts as declared, under itself
 abbrev pub object_alone : List (List ℕ)
@@ -102,11 +109,13 @@ is_cyclic types parents (Some k) = is_own_ancestor types parents k
 abbrev pub cycle_faults : List (List ℕ) → List (List ℕ × ℕ) → Trees → List Fault
 cycle_faults types parents End = []
 cycle_faults types parents (More (Leaf at text) rest) =
-    (if is_cyclic types parents (position (bytes_eq text) types) then fault Cycle at ∷ [] else []) ++ cycle_faults types parents rest
+    (if is_cyclic types parents (position (bytes_eq text) types) then fault Cycle at ∷ [] else [])
+    ++ cycle_faults types parents rest
 cycle_faults types parents (More (Node at close members) rest) = cycle_faults types parents rest
 
 -- what is wrong with the members of `:types`
 abbrev pub types_faults : List (List ℕ) → ℕ → Trees → List Fault
 types_faults types close members =
     typed_faults new_types [] close Start members
-    ++ (again_types types object_alone ((codes "object", 0) ∷ []) Start members ++ cycle_faults types (parents_of types members) members)
+    ++ (again_types types object_alone ((codes "object", 0) ∷ []) Start members
+    ++ cycle_faults types (parents_of types members) members)

@@ -2,15 +2,17 @@ ghost use Rattle.std.specs.Prelude.{◌≡◌, IfOk, OnOk, []};
 ghost use Rattle.pddl_tokens.specs.Numbers.{IsScale};
 ghost use Rattle.pddl_tokens.specs.Trees.{trees_of};
 ghost use Rattle.pddl_parts.specs.First.{first};
-ghost use Rattle.domain_faults.specs.Actions.{key_of, is_duration, stage_of, stage_behind, with_key, keyword_faults, part_word_faults, whole_effect_faults, whole_condition_faults, value_faults, part_list_faults, end_part_faults, missing_faults, parts_faults, variables_of, unnamed_faults, action_faults, with_action, acted_faults, with_acted, actions_faults};
+ghost use Rattle.pddl_parts.specs.Settings.{setting_of};
+ghost use Rattle.domain_faults.specs.Actions.{key_of, place_of, stage_of, stage_behind, with_key, keyword_faults, part_word_faults, whole_effect_faults, whole_condition_faults, value_faults, part_list_faults, end_part_faults, has_duration, missing_faults, parts_faults, variables_of, unnamed_faults, action_faults, with_action, acted_faults, with_acted, actions_faults};
 
 use crate::durations::duration_fault;
 use crate::heads::variables_fault;
-use crate::parts::{is_action, is_durative, is_key, part_of};
+use crate::parts::{ActionKind, is_action, is_key, kind_of, part_of};
 use crate::places::{past_effect_fault, past_timed_fault};
 use pddl_parts::{
-    Fault, Kind, Names, Rule, Scope, condition_fault, earlier, effect_fault, enter_item, fault,
-    is_thing, misfit_list, misfit_word, name_fault, timed_fault, unfit_word, with_items,
+    Context, Fault, Kind, Names, Place, Rule, Scope, TimedPart, condition_fault, earlier,
+    effect_fault, enter_item, fault, is_thing, misfit_list, misfit_word, name_fault, timed_fault,
+    unfit_word, with_items,
 };
 use pddl_tokens::{Form, Head, Word, head_of};
 use std::alloc::Global;
@@ -50,19 +52,20 @@ fn key_of(text: &[u8]) -> Key
     }
 }
 
-fn is_duration(key: Key) -> bool
-    ensures { result ≡ is_duration key }
+/// Where the value of a keyword stands.
+fn place_of(key: Key) -> Place
+    ensures { result ≡ place_of key }
 {
     match key {
-        Key::Duration => true,
-        Key::Parameters | Key::Condition | Key::Effect => false,
+        Key::Duration => Place::Duration,
+        Key::Parameters | Key::Condition | Key::Effect => Place::Elsewhere,
     }
 }
 
-fn stage_of(durative: bool, seen: &Names, text: &[u8]) -> Stage
-    ensures { result ≡ stage_of durative seen.now text.now }
+fn stage_of(kind: ActionKind, seen: &Names, text: &[u8]) -> Stage
+    ensures { result ≡ stage_of kind seen.now text.now }
 {
-    if is_key(durative, text) {
+    if is_key(kind, text) {
         if seen.has(text) {
             Stage::Skipped
         } else {
@@ -73,11 +76,11 @@ fn stage_of(durative: bool, seen: &Names, text: &[u8]) -> Stage
     }
 }
 
-fn stage_behind(durative: bool, seen: &Names, stage: Stage, text: &[u8]) -> Stage
-    ensures { result ≡ stage_behind durative seen.now stage text.now }
+fn stage_behind(kind: ActionKind, seen: &Names, stage: Stage, text: &[u8]) -> Stage
+    ensures { result ≡ stage_behind kind seen.now stage text.now }
 {
     match stage {
-        Stage::Keyword => stage_of(durative, seen, text),
+        Stage::Keyword => stage_of(kind, seen, text),
         Stage::Value(_) | Stage::Skipped => Stage::Keyword,
     }
 }
@@ -85,16 +88,16 @@ fn stage_behind(durative: bool, seen: &Names, stage: Stage, text: &[u8]) -> Stag
 /// Enters a keyword.
 fn enter_key(
     alloc: Global,
-    durative: bool,
+    kind: ActionKind,
     seen: &mut Names,
     stage: Stage,
     word: &Word,
 ) -> Result<(), NoMemory>
-    ensures { OnOk result (seen.new ≡ with_key durative seen.old stage word.now.text) }
+    ensures { OnOk result (seen.new ≡ with_key kind seen.old stage word.now.text) }
 {
     match stage {
         Stage::Keyword => {
-            let key = is_key(durative, word.text.as_slice());
+            let key = is_key(kind, word.text.as_slice());
             enter_item(alloc, key, seen, word)?;
             Ok(())
         }
@@ -102,11 +105,11 @@ fn enter_key(
     }
 }
 
-fn keyword_fault(durative: bool, seen: &Names, word: &Word) -> Option<Fault>
-    ensures { result ≡ first (keyword_faults durative seen.now word.now.at word.now.text) }
+fn keyword_fault(kind: ActionKind, seen: &Names, word: &Word) -> Option<Fault>
+    ensures { result ≡ first (keyword_faults kind seen.now word.now.at word.now.text) }
 {
     let text = word.text.as_slice();
-    if is_key(durative, text) {
+    if is_key(kind, text) {
         if seen.has(text) {
             fault(Kind::Twice, word.at)
         } else {
@@ -117,12 +120,12 @@ fn keyword_fault(durative: bool, seen: &Names, word: &Word) -> Option<Fault>
     }
 }
 
-fn part_word_fault(durative: bool, seen: &Names, stage: Stage, word: &Word) -> Option<Fault>
-    ensures { result ≡ first (part_word_faults durative seen.now stage word.now.at word.now.text) }
+fn part_word_fault(kind: ActionKind, seen: &Names, stage: Stage, word: &Word) -> Option<Fault>
+    ensures { result ≡ first (part_word_faults kind seen.now stage word.now.at word.now.text) }
 {
     match stage {
-        Stage::Keyword => keyword_fault(durative, seen, word),
-        Stage::Value(key) => unfit_word(is_duration(key), word),
+        Stage::Keyword => keyword_fault(kind, seen, word),
+        Stage::Value(key) => unfit_word(place_of(key), word),
         Stage::Skipped => None,
     }
 }
@@ -131,100 +134,91 @@ fn part_word_fault(durative: bool, seen: &Names, stage: Stage, word: &Word) -> O
 #[tactic(auto, using(pddl_parts::proofs::Firsts::first_append))]
 fn whole_effect_fault(
     alloc: Global,
-    durative: bool,
-    scope: &Scope,
-    variables: &Names,
-    scale: u32,
+    kind: ActionKind,
+    context: &Context<'_>,
     at: u32,
     close: u32,
     parts: &[Form],
 ) -> Result<Option<Fault>, NoMemory>
-    requires { IsScale scale }
-    ensures { IfOk result (λ fault. fault ≡ first (whole_effect_faults durative scope.now variables.now scale at close (trees_of parts.now))) }
+    requires { IsScale context.now.scale }
+    ensures { IfOk result (λ fault. fault
+        ≡ first (whole_effect_faults kind (setting_of context.now) at close
+        (trees_of parts.now))) }
 {
-    if durative {
-        let timed = timed_fault(true, scope, variables, scale, at, close, parts);
-        let start = past_timed_fault(alloc, b"start", parts)?;
-        let end = past_timed_fault(alloc, b"end", parts)?;
-        Ok(earlier(timed, earlier(start, end)))
-    } else {
-        let effect = effect_fault(scope, variables, scale, at, close, parts);
-        let past = past_effect_fault(alloc, at, parts)?;
-        Ok(earlier(effect, past))
+    match kind {
+        ActionKind::Instant => {
+            let effect = effect_fault(context, at, close, parts);
+            let past = past_effect_fault(alloc, at, parts)?;
+            Ok(earlier(effect, past))
+        }
+        ActionKind::Durative => {
+            let timed = timed_fault(TimedPart::Effect, context, at, close, parts);
+            let start = past_timed_fault(alloc, b"start", parts)?;
+            let end = past_timed_fault(alloc, b"end", parts)?;
+            Ok(earlier(timed, earlier(start, end)))
+        }
     }
 }
 
 /// The first fault of an action's condition.
 fn whole_condition_fault(
-    durative: bool,
-    scope: &Scope,
-    variables: &Names,
-    scale: u32,
+    kind: ActionKind,
+    context: &Context<'_>,
     at: u32,
     close: u32,
     parts: &[Form],
 ) -> Option<Fault>
-    requires { IsScale scale }
-    ensures { result ≡ first (whole_condition_faults durative scope.now variables.now scale at close (trees_of parts.now)) }
+    requires { IsScale context.now.scale }
+    ensures { result ≡ first (whole_condition_faults kind (setting_of context.now) at close
+        (trees_of parts.now)) }
 {
-    if durative {
-        timed_fault(false, scope, variables, scale, at, close, parts)
-    } else {
-        condition_fault(scope, variables, scale, at, close, parts)
+    match kind {
+        ActionKind::Instant => condition_fault(context, at, close, parts),
+        ActionKind::Durative => timed_fault(TimedPart::Condition, context, at, close, parts),
     }
 }
 
 /// The first fault of the list behind a keyword.
 fn value_fault(
     alloc: Global,
-    durative: bool,
-    types: &Names,
-    scope: &Scope,
-    variables: &Names,
-    scale: u32,
+    kind: ActionKind,
+    context: &Context<'_>,
     key: Key,
     at: u32,
     close: u32,
     parts: &[Form],
 ) -> Result<Option<Fault>, NoMemory>
-    requires { IsScale scale }
-    ensures { IfOk result (λ fault. fault ≡ first (value_faults durative types.now scope.now variables.now scale key at close (trees_of parts.now))) }
+    requires { IsScale context.now.scale }
+    ensures { IfOk result (λ fault. fault
+        ≡ first (value_faults kind (setting_of context.now) key at close
+        (trees_of parts.now))) }
 {
     match key {
-        Key::Parameters => variables_fault(alloc, types, close, parts),
-        Key::Duration => Ok(duration_fault(scope, variables, scale, at, close, parts)),
-        Key::Condition => Ok(whole_condition_fault(
-            durative, scope, variables, scale, at, close, parts,
-        )),
-        Key::Effect => whole_effect_fault(
-            alloc, durative, scope, variables, scale, at, close, parts,
-        ),
+        Key::Parameters => variables_fault(alloc, &context.scope.types, close, parts),
+        Key::Duration => Ok(duration_fault(&context.in_duration(), at, close, parts)),
+        Key::Condition => Ok(whole_condition_fault(kind, context, at, close, parts)),
+        Key::Effect => whole_effect_fault(alloc, kind, context, at, close, parts),
     }
 }
 
 /// The first fault of a list among the parts of an action.
 fn part_list_fault(
     alloc: Global,
-    durative: bool,
-    types: &Names,
-    scope: &Scope,
-    variables: &Names,
-    scale: u32,
+    kind: ActionKind,
+    context: &Context<'_>,
     stage: Stage,
     at: u32,
     close: u32,
     parts: &[Form],
 ) -> Result<Option<Fault>, NoMemory>
-    requires { IsScale scale }
-    ensures { IfOk result (λ fault. fault ≡ first (part_list_faults durative types.now scope.now variables.now scale stage at close (trees_of parts.now))) }
+    requires { IsScale context.now.scale }
+    ensures { IfOk result (λ fault. fault
+        ≡ first (part_list_faults kind (setting_of context.now) stage at close
+        (trees_of parts.now))) }
 {
     match stage {
         Stage::Keyword => Ok(misfit_list(at, parts)),
-        Stage::Value(key) => {
-            value_fault(
-                alloc, durative, types, scope, variables, scale, key, at, close, parts,
-            )
-        }
+        Stage::Value(key) => { value_fault(alloc, kind, context, key, at, close, parts) }
         Stage::Skipped => Ok(None),
     }
 }
@@ -238,10 +232,19 @@ fn end_part_fault(stage: Stage, close: u32) -> Option<Fault>
     }
 }
 
-fn missing_fault(durative: bool, seen: &Names, close: u32) -> Option<Fault>
-    ensures { result ≡ first (missing_faults durative seen.now close) }
+fn has_duration(kind: ActionKind, seen: &Names) -> bool
+    ensures { result ≡ has_duration kind seen.now }
 {
-    if seen.has(b":parameters") && (!durative || seen.has(b":duration")) {
+    match kind {
+        ActionKind::Instant => true,
+        ActionKind::Durative => seen.has(b":duration"),
+    }
+}
+
+fn missing_fault(kind: ActionKind, seen: &Names, close: u32) -> Option<Fault>
+    ensures { result ≡ first (missing_faults kind seen.now close) }
+{
+    if seen.has(b":parameters") && has_duration(kind, seen) {
         None
     } else {
         fault(Kind::Shape, close)
@@ -252,16 +255,15 @@ fn missing_fault(durative: bool, seen: &Names, close: u32) -> Option<Fault>
 #[tactic(auto, using(pddl_parts::proofs::Firsts::first_onto))]
 fn parts_fault(
     alloc: Global,
-    durative: bool,
-    types: &Names,
-    scope: &Scope,
-    variables: &Names,
-    scale: u32,
+    kind: ActionKind,
+    context: &Context<'_>,
     close: u32,
     forms: &[Form],
 ) -> Result<Option<Fault>, NoMemory>
-    requires { IsScale scale }
-    ensures { IfOk result (λ fault. fault ≡ first (parts_faults durative types.now scope.now variables.now scale close [] Stage.Keyword (trees_of forms.now))) }
+    requires { IsScale context.now.scale }
+    ensures { IfOk result (λ fault. fault
+        ≡ first (parts_faults kind (setting_of context.now) close [] Stage.Keyword
+        (trees_of forms.now))) }
 {
     let mut best = None;
     let mut seen = Names::new(alloc);
@@ -271,12 +273,12 @@ fn parts_fault(
         match head_of(rest) {
             Head::Missing => {
                 best = earlier(best, end_part_fault(stage, close));
-                return Ok(earlier(best, missing_fault(durative, &seen, close)));
+                return Ok(earlier(best, missing_fault(kind, &seen, close)));
             }
             Head::Word(word, more) => {
-                best = earlier(best, part_word_fault(durative, &seen, stage, word));
-                let behind = stage_behind(durative, &seen, stage, word.text.as_slice());
-                enter_key(alloc, durative, &mut seen, stage, word)?;
+                best = earlier(best, part_word_fault(kind, &seen, stage, word));
+                let behind = stage_behind(kind, &seen, stage, word.text.as_slice());
+                enter_key(alloc, kind, &mut seen, stage, word)?;
                 stage = behind;
                 rest = more;
             }
@@ -286,9 +288,7 @@ fn parts_fault(
                 parts,
                 rest: more,
             } => {
-                let list = part_list_fault(
-                    alloc, durative, types, scope, variables, scale, stage, at, close, parts,
-                )?;
+                let list = part_list_fault(alloc, kind, context, stage, at, close, parts)?;
                 best = earlier(best, list);
                 stage = Stage::Keyword;
                 rest = more;
@@ -297,9 +297,10 @@ fn parts_fault(
     }
 }
 
-/// The variables of an action, its parameters, in the order of the text; `members` stand behind the action's name.
-pub fn variables_of(alloc: Global, durative: bool, members: &[Form]) -> Result<Names, NoMemory>
-    ensures { IfOk result (λ names. names ≡ variables_of durative (trees_of members.now)) }
+/// The variables of an action, its parameters, in the order of the text; `members` stand behind the
+/// action's name.
+pub fn variables_of(alloc: Global, kind: ActionKind, members: &[Form]) -> Result<Names, NoMemory>
+    ensures { IfOk result (λ names. names ≡ variables_of kind (trees_of members.now)) }
 {
     let rule = Rule {
         variables: true,
@@ -309,35 +310,38 @@ pub fn variables_of(alloc: Global, durative: bool, members: &[Form]) -> Result<N
         alloc,
         rule,
         Names::new(alloc),
-        part_of(durative, b":parameters", members),
+        part_of(kind, b":parameters", members),
     )
 }
 
 /// The first fault of an action behind its name.
 fn unnamed_fault(
     alloc: Global,
-    durative: bool,
-    types: &Names,
+    kind: ActionKind,
     scope: &Scope,
     scale: u32,
     close: u32,
     members: &[Form],
 ) -> Result<Option<Fault>, NoMemory>
     requires { IsScale scale }
-    ensures { IfOk result (λ fault. fault ≡ first (unnamed_faults durative types.now scope.now scale close (trees_of members.now))) }
+    ensures { IfOk result (λ fault. fault
+        ≡ first (unnamed_faults kind scope.now scale close (trees_of members.now))) }
 {
-    let variables = variables_of(alloc, durative, members)?;
-    parts_fault(
-        alloc, durative, types, scope, &variables, scale, close, members,
-    )
+    let variables = variables_of(alloc, kind, members)?;
+    let context = Context {
+        scope,
+        variables: &variables,
+        scale,
+        place: Place::Elsewhere,
+    };
+    parts_fault(alloc, kind, &context, close, members)
 }
 
 /// The first fault of an action, whose name is entered.
 #[tactic(auto, using(pddl_parts::proofs::Firsts::first_append))]
 fn action_fault(
     alloc: Global,
-    durative: bool,
-    types: &Names,
+    kind: ActionKind,
     scope: &Scope,
     scale: u32,
     names: &mut Names,
@@ -345,14 +349,15 @@ fn action_fault(
     members: &[Form],
 ) -> Result<Option<Fault>, NoMemory>
     requires { IsScale scale }
-    ensures fault { IfOk result (λ fault. fault ≡ first (action_faults durative types.now scope.now scale names.old close (trees_of members.now))) }
+    ensures fault { IfOk result (λ fault. fault
+        ≡ first (action_faults kind scope.now scale names.old close (trees_of members.now))) }
     ensures names { OnOk result (names.new ≡ with_action names.old (trees_of members.now)) }
 {
     match head_of(members) {
         Head::Missing => Ok(fault(Kind::Shape, close)),
         Head::Word(word, rest) => {
             let again = enter_item(alloc, is_thing(word), names, word)?;
-            let parts = unnamed_fault(alloc, durative, types, scope, scale, close, rest)?;
+            let parts = unnamed_fault(alloc, kind, scope, scale, close, rest)?;
             Ok(earlier(name_fault(word), earlier(again, parts)))
         }
         Head::List {
@@ -361,7 +366,7 @@ fn action_fault(
             rest,
             ..
         } => {
-            let parts = unnamed_fault(alloc, durative, types, scope, scale, close, rest)?;
+            let parts = unnamed_fault(alloc, kind, scope, scale, close, rest)?;
             Ok(earlier(misfit_list(at, list), parts))
         }
     }
@@ -370,7 +375,6 @@ fn action_fault(
 /// The first fault of a section, where it is an action, whose name is entered.
 fn acted_fault(
     alloc: Global,
-    types: &Names,
     scope: &Scope,
     scale: u32,
     names: &mut Names,
@@ -378,7 +382,8 @@ fn acted_fault(
     parts: &[Form],
 ) -> Result<Option<Fault>, NoMemory>
     requires { IsScale scale }
-    ensures fault { IfOk result (λ fault. fault ≡ first (acted_faults types.now scope.now scale names.old close (trees_of parts.now))) }
+    ensures fault { IfOk result (λ fault. fault
+        ≡ first (acted_faults scope.now scale names.old close (trees_of parts.now))) }
     ensures names { OnOk result (names.new ≡ with_acted names.old (trees_of parts.now)) }
 {
     match head_of(parts) {
@@ -386,16 +391,7 @@ fn acted_fault(
         Head::Word(head, members) => {
             let text = head.text.as_slice();
             if is_action(text) {
-                action_fault(
-                    alloc,
-                    is_durative(text),
-                    types,
-                    scope,
-                    scale,
-                    names,
-                    close,
-                    members,
-                )
+                action_fault(alloc, kind_of(text), scope, scale, names, close, members)
             } else {
                 Ok(None)
             }
@@ -407,13 +403,13 @@ fn acted_fault(
 #[tactic(auto, using(pddl_parts::proofs::Firsts::first_onto))]
 pub fn actions_fault(
     alloc: Global,
-    types: &Names,
     scope: &Scope,
     scale: u32,
     sections: &[Form],
 ) -> Result<Option<Fault>, NoMemory>
     requires { IsScale scale }
-    ensures { IfOk result (λ fault. fault ≡ first (actions_faults types.now scope.now scale [] (trees_of sections.now))) }
+    ensures { IfOk result (λ fault. fault
+        ≡ first (actions_faults scope.now scale [] (trees_of sections.now))) }
 {
     let mut best = None;
     let mut names = Names::new(alloc);
@@ -428,7 +424,7 @@ pub fn actions_fault(
                 rest: more,
                 ..
             } => {
-                let acted = acted_fault(alloc, types, scope, scale, &mut names, close, parts)?;
+                let acted = acted_fault(alloc, scope, scale, &mut names, close, parts)?;
                 best = earlier(best, acted);
                 rest = more;
             }

@@ -8,24 +8,29 @@ use tp_spec::{List, NoMemory};
 fn mark(marks: &mut [bool], order: &[usize], first: usize)
     requires start { first ≤ length order.now }
     requires inside { (i : ℕ) → i < length order.now → get_or order.now i 0 < length marks.old }
-    ensures ring { (i : ℕ) → first ≤ i → i < length order.now → get_or marks.new (get_or order.now i 0) false ≡ true }
-    ensures rest { (v : ℕ) → ((i : ℕ) → first ≤ i → i < length order.now → get_or order.now i 0 ≡ v → ⊥) → get_or marks.new v false ≡ get_or marks.old v false }
+    ensures ring { (i : ℕ) → first ≤ i → i < length order.now
+        → get_or marks.new (get_or order.now i 0) false ≡ true }
+    ensures rest { (v : ℕ) → ((i : ℕ) → first ≤ i → i < length order.now → get_or order.now i 0 ≡ v
+        → ⊥) → get_or marks.new v false ≡ get_or marks.old v false }
 {
     for place in first..order.len() {
         marks[order[place]] = true;
     }
 }
 
-/// Goes up from a number to the first that was met, which it answers, and puts those on the way behind the others.
+/// Goes up from a number to the first that was met, which it answers, and puts those on the way
+/// behind the others.
 fn walk(
     above: &[u32],
     places: &mut [usize],
     order: &mut List<usize>,
     start: usize,
 ) -> Result<usize, NoMemory>
-    requires walk { IsWalk above.now places.old places.old order.old (length order.old) start start }
+    requires walk { IsWalk above.now places.old
+        places.old order.old (length order.old) start start }
     requires below { (v : ℕ) → v < length above.now → get_or above.now v 0 < length above.now }
-    ensures walk { IfOk result (λ end. IsWalk above.now places.old places.new order.new (length order.old) start end) }
+    ensures walk { IfOk result (λ end. IsWalk above.now places.old places.new order.new
+        (length order.old) start end) }
     ensures met { IfOk result (λ end. 0 < get_or places.new end 0) }
 {
     let mut at = start;
@@ -77,7 +82,8 @@ fn search(
     requires marked { length marks.old ≡ length above.now }
     requires unmet { (v : ℕ) → get_or places.old v 0 ≡ 0 }
     requires unmarked { (v : ℕ) → get_or marks.old v false ≡ false }
-    ensures { OnOk result ((v : ℕ) → v < length above.now → get_or marks.new v false ≡ comes_back above.now v) }
+    ensures { OnOk result ((v : ℕ) → v < length above.now
+        → get_or marks.new v false ≡ comes_back above.now v) }
 {
     let mut order = List::new(alloc);
     order.push(0)?;
@@ -88,13 +94,14 @@ fn search(
     Ok(())
 }
 
-/// Which numbers come back to themselves on the way up. `above` gives the number above each, and 0 stands above 0.
-/// Each number is met once.
+/// Which numbers come back to themselves on the way up. `above` gives the number above each, and 0
+/// stands above 0. Each number is met once.
 pub fn own_ancestors(alloc: Global, above: &[u32]) -> Result<List<bool>, NoMemory>
     requires some { 0 < length above.now }
     requires root { get_or above.now 0 0 ≡ 0 }
     requires below { (v : ℕ) → v < length above.now → get_or above.now v 0 < length above.now }
-    ensures { IfOk result (λ marks. (v : ℕ) → v < length above.now → get_or marks v false ≡ comes_back above.now v) }
+    ensures { IfOk result (λ marks. (v : ℕ) → v < length above.now
+        → get_or marks v false ≡ comes_back above.now v) }
 {
     let mut places = match vec![in alloc; 0usize; above.len()] {
         Ok(places) => places,

@@ -37,7 +37,8 @@ fn above_each(alloc: Global, types: &Names, parents: &Table) -> Result<List<u32>
 /// Which types are their own ancestors, by number.
 fn cyclic_types(alloc: Global, types: &Names, parents: &Table) -> Result<List<bool>, NoMemory>
     requires { AreInside types.now parents.now }
-    ensures { IfOk result (λ marks. (v : ℕ) → v < length types.now → get_or marks v false ≡ is_own_ancestor types.now parents.now v) }
+    ensures { IfOk result (λ marks. (v : ℕ) → v < length types.now
+        → get_or marks v false ≡ is_own_ancestor types.now parents.now v) }
 {
     let above = above_each(alloc, types, parents)?;
     own_ancestors(alloc, above.as_slice())
@@ -58,7 +59,8 @@ fn is_marked(marks: &[bool], number: Option<u32>) -> bool
 /// The first word among types and parents that names a marked type.
 #[tactic(auto, using(pddl_parts::proofs::Firsts::first_onto))]
 fn marked_fault(types: &Names, marks: &[bool], members: &[Form]) -> Result<Option<Fault>, NoMemory>
-    ensures { IfOk result (λ fault. fault ≡ first (marked_faults types.now marks.now (trees_of members.now))) }
+    ensures { IfOk result (λ fault. fault
+        ≡ first (marked_faults types.now marks.now (trees_of members.now))) }
 {
     let mut best = None;
     let mut rest = members;
@@ -77,8 +79,8 @@ fn marked_fault(types: &Names, marks: &[bool], members: &[Form]) -> Result<Optio
     }
 }
 
-/// The first word among types and parents that names a type that is its own ancestor. The parent of each type is looked
-/// up once.
+/// The first word among types and parents that names a type that is its own ancestor. The parent of
+/// each type is looked up once.
 pub fn cycle_fault(
     alloc: Global,
     types: &Names,
@@ -86,7 +88,8 @@ pub fn cycle_fault(
     members: &[Form],
 ) -> Result<Option<Fault>, NoMemory>
     requires { AreInside types.now parents.now }
-    ensures { IfOk result (λ fault. fault ≡ first (cycle_faults types.now parents.now (trees_of members.now))) }
+    ensures { IfOk result (λ fault. fault
+        ≡ first (cycle_faults types.now parents.now (trees_of members.now))) }
 {
     let marks = cyclic_types(alloc, types, parents)?;
     marked_fault(types, marks.as_slice(), members)

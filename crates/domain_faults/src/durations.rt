@@ -2,11 +2,12 @@ ghost use Rattle.std.specs.Prelude.{◌≡◌};
 ghost use Rattle.pddl_tokens.specs.Numbers.{IsScale};
 ghost use Rattle.pddl_tokens.specs.Trees.{trees_of};
 ghost use Rattle.pddl_parts.specs.First.{first};
+ghost use Rattle.pddl_parts.specs.Settings.{setting_of};
 ghost use Rattle.domain_faults.specs.Durations.{is_bound, follows, variable_faults, bounded_faults, bound_faults, last_bound_faults, start_faults, started_faults, constraint_faults, constraints_faults, duration_faults};
 
 use pddl_parts::{
-    Fault, Kind, Names, Scope, earlier, extra_fault, fault, last_operand_fault, unfit_list,
-    unfit_word, unlabelled_fault,
+    Context, Fault, Kind, Place, earlier, extra_fault, fault, last_operand_fault, unfit_list,
+    unfit_word,
 };
 use pddl_tokens::{Form, Head, Word, head_of};
 
@@ -33,26 +34,21 @@ fn variable_fault(word: &Word) -> Option<Fault>
     if word.text.as_slice() == b"?duration".as_slice() {
         None
     } else {
-        unfit_word(true, word)
+        unfit_word(Place::Duration, word)
     }
 }
 
 /// The first fault behind the head of a bound.
 #[tactic(auto, using(pddl_parts::proofs::Firsts::first_append))]
-fn bounded_fault(
-    scope: &Scope,
-    variables: &Names,
-    scale: u32,
-    close: u32,
-    members: &[Form],
-) -> Option<Fault>
-    requires { IsScale scale }
-    ensures { result ≡ first (bounded_faults scope.now variables.now scale close (trees_of members.now)) }
+fn bounded_fault(context: &Context<'_>, close: u32, members: &[Form]) -> Option<Fault>
+    requires { IsScale context.now.scale }
+    ensures { result ≡ first (bounded_faults (setting_of context.now) close
+        (trees_of members.now)) }
 {
     match head_of(members) {
         Head::Missing => fault(Kind::Shape, close),
         Head::Word(word, rest) => {
-            let value = last_operand_fault(true, scope, variables, scale, close, rest);
+            let value = last_operand_fault(context, close, rest);
             earlier(variable_fault(word), value)
         }
         Head::List {
@@ -61,36 +57,27 @@ fn bounded_fault(
             rest,
             ..
         } => {
-            let value = last_operand_fault(true, scope, variables, scale, close, rest);
-            earlier(unfit_list(true, at, parts), value)
+            let value = last_operand_fault(context, close, rest);
+            earlier(unfit_list(Place::Duration, at, parts), value)
         }
     }
 }
 
 /// The first fault of a list that is to be a bound without a time.
-fn bound_fault(
-    scope: &Scope,
-    variables: &Names,
-    scale: u32,
-    at: u32,
-    close: u32,
-    parts: &[Form],
-) -> Option<Fault>
-    requires { IsScale scale }
-    ensures { result ≡ first (bound_faults scope.now variables.now scale at close (trees_of parts.now)) }
+fn bound_fault(context: &Context<'_>, at: u32, close: u32, parts: &[Form]) -> Option<Fault>
+    requires { IsScale context.now.scale }
+    ensures { result ≡ first (bound_faults (setting_of context.now) at close (trees_of parts.now)) }
 {
     match head_of(parts) {
-        Head::Missing | Head::List { .. } => unfit_list(true, at, parts),
+        Head::Missing | Head::List { .. } => unfit_list(Place::Duration, at, parts),
         Head::Word(head, rest) => {
             let text = head.text.as_slice();
             if is_bound(text) {
-                bounded_fault(scope, variables, scale, close, rest)
+                bounded_fault(context, close, rest)
             } else if text == b"at".as_slice() && follows(b"end", rest) {
                 fault(Kind::LeftOut, head.at)
-            } else if text == b"not".as_slice() {
-                unlabelled_fault(false, at, head.at, rest)
             } else {
-                unfit_list(true, at, parts)
+                unfit_list(Place::Duration, at, parts)
             }
         }
     }
@@ -98,27 +85,25 @@ fn bound_fault(
 
 /// The first fault where a bound is to be the last member.
 #[tactic(auto, using(pddl_parts::proofs::Firsts::first_append))]
-fn last_bound_fault(
-    scope: &Scope,
-    variables: &Names,
-    scale: u32,
-    close: u32,
-    members: &[Form],
-) -> Option<Fault>
-    requires { IsScale scale }
-    ensures { result ≡ first (last_bound_faults scope.now variables.now scale close (trees_of members.now)) }
+fn last_bound_fault(context: &Context<'_>, close: u32, members: &[Form]) -> Option<Fault>
+    requires { IsScale context.now.scale }
+    ensures { result ≡ first (last_bound_faults (setting_of context.now) close
+        (trees_of members.now)) }
 {
     match head_of(members) {
         Head::Missing => fault(Kind::Shape, close),
-        Head::Word(word, rest) => earlier(unfit_word(true, word), extra_fault(true, rest)),
+        Head::Word(word, rest) => earlier(
+            unfit_word(Place::Duration, word),
+            extra_fault(Place::Duration, rest),
+        ),
         Head::List {
             at,
             close,
             parts,
             rest,
         } => {
-            let bound = bound_fault(scope, variables, scale, at, close, parts);
-            earlier(bound, extra_fault(true, rest))
+            let bound = bound_fault(context, at, close, parts);
+            earlier(bound, extra_fault(Place::Duration, rest))
         }
     }
 }
@@ -129,26 +114,21 @@ fn start_fault(word: &Word) -> Option<Fault>
     if word.text.as_slice() == b"start".as_slice() {
         None
     } else {
-        unfit_word(true, word)
+        unfit_word(Place::Duration, word)
     }
 }
 
 /// The first fault behind `at`, where `end` does not follow.
 #[tactic(auto, using(pddl_parts::proofs::Firsts::first_append))]
-fn started_fault(
-    scope: &Scope,
-    variables: &Names,
-    scale: u32,
-    close: u32,
-    members: &[Form],
-) -> Option<Fault>
-    requires { IsScale scale }
-    ensures { result ≡ first (started_faults scope.now variables.now scale close (trees_of members.now)) }
+fn started_fault(context: &Context<'_>, close: u32, members: &[Form]) -> Option<Fault>
+    requires { IsScale context.now.scale }
+    ensures { result ≡ first (started_faults (setting_of context.now) close
+        (trees_of members.now)) }
 {
     match head_of(members) {
         Head::Missing => fault(Kind::Shape, close),
         Head::Word(word, rest) => {
-            let bound = last_bound_fault(scope, variables, scale, close, rest);
+            let bound = last_bound_fault(context, close, rest);
             earlier(start_fault(word), bound)
         }
         Head::List {
@@ -157,37 +137,29 @@ fn started_fault(
             rest,
             ..
         } => {
-            let bound = last_bound_fault(scope, variables, scale, close, rest);
-            earlier(unfit_list(true, at, parts), bound)
+            let bound = last_bound_fault(context, close, rest);
+            earlier(unfit_list(Place::Duration, at, parts), bound)
         }
     }
 }
 
 /// The first fault of a list that is to be a bound, at the start or without a time.
-fn constraint_fault(
-    scope: &Scope,
-    variables: &Names,
-    scale: u32,
-    at: u32,
-    close: u32,
-    parts: &[Form],
-) -> Option<Fault>
-    requires { IsScale scale }
-    ensures { result ≡ first (constraint_faults scope.now variables.now scale at close (trees_of parts.now)) }
+fn constraint_fault(context: &Context<'_>, at: u32, close: u32, parts: &[Form]) -> Option<Fault>
+    requires { IsScale context.now.scale }
+    ensures { result ≡ first (constraint_faults (setting_of context.now) at close
+        (trees_of parts.now)) }
 {
     match head_of(parts) {
-        Head::Missing | Head::List { .. } => {
-            bound_fault(scope, variables, scale, at, close, parts)
-        }
+        Head::Missing | Head::List { .. } => { bound_fault(context, at, close, parts) }
         Head::Word(head, rest) => {
             if head.text.as_slice() == b"at".as_slice() {
                 if follows(b"end", rest) {
                     fault(Kind::LeftOut, head.at)
                 } else {
-                    started_fault(scope, variables, scale, close, rest)
+                    started_fault(context, close, rest)
                 }
             } else {
-                bound_fault(scope, variables, scale, at, close, parts)
+                bound_fault(context, at, close, parts)
             }
         }
     }
@@ -195,9 +167,9 @@ fn constraint_fault(
 
 /// The first fault of some bounds.
 #[tactic(auto, using(pddl_parts::proofs::Firsts::first_onto))]
-fn constraints_fault(scope: &Scope, variables: &Names, scale: u32, forms: &[Form]) -> Option<Fault>
-    requires { IsScale scale }
-    ensures { result ≡ first (constraints_faults scope.now variables.now scale (trees_of forms.now)) }
+fn constraints_fault(context: &Context<'_>, forms: &[Form]) -> Option<Fault>
+    requires { IsScale context.now.scale }
+    ensures { result ≡ first (constraints_faults (setting_of context.now) (trees_of forms.now)) }
 {
     let mut best = None;
     let mut rest = forms;
@@ -205,7 +177,7 @@ fn constraints_fault(scope: &Scope, variables: &Names, scale: u32, forms: &[Form
         match head_of(rest) {
             Head::Missing => return best,
             Head::Word(word, more) => {
-                best = earlier(best, unfit_word(true, word));
+                best = earlier(best, unfit_word(Place::Duration, word));
                 rest = more;
             }
             Head::List {
@@ -214,7 +186,7 @@ fn constraints_fault(scope: &Scope, variables: &Names, scale: u32, forms: &[Form
                 parts,
                 rest: more,
             } => {
-                let bound = constraint_fault(scope, variables, scale, at, close, parts);
+                let bound = constraint_fault(context, at, close, parts);
                 best = earlier(best, bound);
                 rest = more;
             }
@@ -222,27 +194,22 @@ fn constraints_fault(scope: &Scope, variables: &Names, scale: u32, forms: &[Form
     }
 }
 
-/// The first fault of a list that is to bound a durative action's duration (PDDL 2.1, duration constraints): nothing,
-/// one bound, or a conjunction of bounds. It stands at `at`, closes at `close`; numbers are whole at `scale`.
-pub fn duration_fault(
-    scope: &Scope,
-    variables: &Names,
-    scale: u32,
-    at: u32,
-    close: u32,
-    parts: &[Form],
-) -> Option<Fault>
-    requires { IsScale scale }
-    ensures { result ≡ first (duration_faults scope.now variables.now scale at close (trees_of parts.now)) }
+/// The first fault of a list that is to bound a durative action's duration (PDDL 2.1, duration
+/// constraints), in the context of a duration: nothing, one bound, or a conjunction of bounds. It
+/// stands at `at` and closes at `close`.
+pub fn duration_fault(context: &Context<'_>, at: u32, close: u32, parts: &[Form]) -> Option<Fault>
+    requires { IsScale context.now.scale }
+    ensures { result ≡ first (duration_faults (setting_of context.now) at close
+        (trees_of parts.now)) }
 {
     match head_of(parts) {
         Head::Missing => None,
-        Head::List { .. } => unfit_list(true, at, parts),
+        Head::List { .. } => unfit_list(Place::Duration, at, parts),
         Head::Word(head, rest) => {
             if head.text.as_slice() == b"and".as_slice() {
-                constraints_fault(scope, variables, scale, rest)
+                constraints_fault(context, rest)
             } else {
-                constraint_fault(scope, variables, scale, at, close, parts)
+                constraint_fault(context, at, close, parts)
             }
         }
     }

@@ -4,15 +4,22 @@ ghost use Rattle.pddl_parts.specs.First.{first};
 ghost use Rattle.domain_faults.specs.Heads.{variables_faults, head_faults, again_head, with_head, number_faults, behind_word, listed_faults, with_listed, behind_list, heads_faults};
 
 use pddl_parts::{
-    Fault, Names, Part, Rule, earlier, end_fault, enter_item, is_dash, is_left_out, is_symbol,
-    is_thing, misfit_list, misfit_word, name_fault, repeat_fault, typed_fault,
+    Fault, Names, Part, Rule, earlier, end_fault, enter_item, is_dash, is_head_word, is_thing,
+    misfit_list, misfit_word, name_fault, repeat_fault, typed_fault,
 };
 use pddl_tokens::{Form, Head, Word, head_of};
 use std::alloc::Global;
 use tp_spec::NoMemory;
 
-/// The first fault of typed variables, as an action's parameters: each is to be new, and its type among `types`.
-/// `close` is the closing parenthesis of their list.
+/// What is declared by heads, lists of a name and typed variables.
+#[derive(Clone, Copy, Debug, PartialEq, Eq)]
+pub enum HeadKind {
+    Predicates,
+    Functions,
+}
+
+/// The first fault of typed variables, as an action's parameters: each is to be new, and its type
+/// among `types`. `close` is the closing parenthesis of their list.
 #[tactic(auto, using(pddl_parts::proofs::Firsts::first_append))]
 pub fn variables_fault(
     alloc: Global,
@@ -20,7 +27,8 @@ pub fn variables_fault(
     close: u32,
     forms: &[Form],
 ) -> Result<Option<Fault>, NoMemory>
-    ensures { IfOk result (λ fault. fault ≡ first (variables_faults types.now close (trees_of forms.now))) }
+    ensures { IfOk result (λ fault. fault
+        ≡ first (variables_faults types.now close (trees_of forms.now))) }
 {
     let rule = Rule {
         variables: true,
@@ -40,12 +48,13 @@ fn head_fault(
     close: u32,
     parts: &[Form],
 ) -> Result<Option<Fault>, NoMemory>
-    ensures { IfOk result (λ fault. fault ≡ first (head_faults types.now at close (trees_of parts.now))) }
+    ensures { IfOk result (λ fault. fault
+        ≡ first (head_faults types.now at close (trees_of parts.now))) }
 {
     match head_of(parts) {
         Head::Missing | Head::List { .. } => Ok(misfit_list(at, parts)),
         Head::Word(head, rest) => {
-            if is_symbol(head) && !is_left_out(head.text.as_slice()) {
+            if is_head_word(head) {
                 let variables = variables_fault(alloc, types, close, rest)?;
                 Ok(earlier(name_fault(head), variables))
             } else {
@@ -57,7 +66,8 @@ fn head_fault(
 
 /// Enters a head's name, and says what is wrong where it came before.
 fn enter_head(alloc: Global, seen: &mut Names, parts: &[Form]) -> Result<Option<Fault>, NoMemory>
-    ensures fault { IfOk result (λ fault. fault ≡ first (again_head seen.old (trees_of parts.now))) }
+    ensures fault { IfOk result (λ fault. fault
+        ≡ first (again_head seen.old (trees_of parts.now))) }
     ensures seen { OnOk result (seen.new ≡ with_head seen.old (trees_of parts.now)) }
 {
     match head_of(parts) {
@@ -89,8 +99,8 @@ fn number_fault(part: Part, word: &Word) -> Option<Fault>
     }
 }
 
-/// What a word among predicates or functions, at this part of them, leaves to stand before what follows it: only behind
-/// a head may a hyphen stand.
+/// What a word among predicates or functions, at this part of them, leaves to stand before what
+/// follows it: only behind a head may a hyphen stand.
 pub fn behind_word(part: Part, text: &[u8]) -> Part
     ensures { result ≡ behind_word part text.now }
 {
@@ -106,18 +116,20 @@ pub fn behind_word(part: Part, text: &[u8]) -> Part
     }
 }
 
-/// What a list among predicates or functions, at this part of them, leaves to stand before what follows it. Where
-/// `numbers` is set, they are functions, and `- number` may stand behind a head.
-pub fn behind_list(numbers: bool, part: Part) -> Part
-    ensures { result ≡ behind_list numbers part }
+/// What a list among predicates or functions, at this part of them, leaves to stand before what
+/// follows it: `- number` may stand behind a function.
+pub fn behind_list(kind: HeadKind, part: Part) -> Part
+    ensures { result ≡ behind_list kind part }
 {
-    match part {
-        Part::Hyphen => Part::Start,
-        Part::Start | Part::Items => { if numbers { Part::Items } else { Part::Start } }
+    match (kind, part) {
+        (HeadKind::Predicates, _) => Part::Start,
+        (HeadKind::Functions, Part::Hyphen) => Part::Start,
+        (HeadKind::Functions, Part::Start | Part::Items) => Part::Items,
     }
 }
 
-/// Enters the name of a list among predicates or functions, where it is a head; directly behind a hyphen it is none.
+/// Enters the name of a list among predicates or functions, where it is a head; directly behind a
+/// hyphen it is none.
 pub fn enter_listed(
     alloc: Global,
     seen: &mut Names,
@@ -135,7 +147,8 @@ pub fn enter_listed(
     }
 }
 
-/// The first fault of a list among predicates or functions, whose name is entered where it is a head.
+/// The first fault of a list among predicates or functions, whose name is entered where it is a
+/// head.
 #[tactic(auto, using(pddl_parts::proofs::Firsts::first_append))]
 fn listed_fault(
     alloc: Global,
@@ -146,7 +159,8 @@ fn listed_fault(
     close: u32,
     parts: &[Form],
 ) -> Result<Option<Fault>, NoMemory>
-    ensures fault { IfOk result (λ fault. fault ≡ first (listed_faults types.now seen.old part at close (trees_of parts.now))) }
+    ensures fault { IfOk result (λ fault. fault
+        ≡ first (listed_faults types.now seen.old part at close (trees_of parts.now))) }
     ensures seen { OnOk result (seen.new ≡ with_listed seen.old part (trees_of parts.now)) }
 {
     match part {
@@ -159,17 +173,18 @@ fn listed_fault(
     }
 }
 
-/// The first fault of the members of `:predicates`, or of `:functions`, where `- number` may stand behind a head.
-/// `close` is the section's closing parenthesis.
+/// The first fault of the members of `:predicates`, or of `:functions`. `close` is the section's
+/// closing parenthesis.
 #[tactic(auto, using(pddl_parts::proofs::Firsts::first_onto))]
 pub fn heads_fault(
     alloc: Global,
-    numbers: bool,
+    kind: HeadKind,
     types: &Names,
     close: u32,
     forms: &[Form],
 ) -> Result<Option<Fault>, NoMemory>
-    ensures { IfOk result (λ fault. fault ≡ first (heads_faults numbers types.now close [] Part.Start (trees_of forms.now))) }
+    ensures { IfOk result (λ fault. fault
+        ≡ first (heads_faults kind types.now close [] Part.Start (trees_of forms.now))) }
 {
     let mut best = None;
     let mut part = Part::Start;
@@ -191,7 +206,7 @@ pub fn heads_fault(
             } => {
                 let listed = listed_fault(alloc, types, &mut seen, part, at, close, parts)?;
                 best = earlier(best, listed);
-                part = behind_list(numbers, part);
+                part = behind_list(kind, part);
                 rest = more;
             }
         }

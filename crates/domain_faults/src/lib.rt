@@ -1,10 +1,11 @@
 //! What is wrong with a PDDL domain's text: its first fault, exactly.
 //!
-//! What is wrong with a text is a list of faults, a definition in `specs/`, over two passes: all but actions' parts, then
-//! the actions. [`domain_fault`] answers the first fault of the first pass that has one.
+//! What is wrong with a text is a list of faults, a definition in `specs/`, over two passes: all
+//! but actions' parts, then the actions. [`domain_fault`] answers the first fault of the first pass
+//! that has one.
 //!
-//! Beside it stand the looks at sections, heads, types and actions' parts that the passes share with whoever reads what
-//! a text without a fault says.
+//! Beside it stand the looks at sections, heads, types and actions' parts that the passes share
+//! with whoever reads what a text without a fault says.
 #![tactic(auto)]
 
 mod actions;
@@ -23,8 +24,8 @@ mod types;
 mod written;
 
 pub use actions::variables_of;
-pub use heads::{behind_list, behind_word, enter_listed};
+pub use heads::{HeadKind, behind_list, behind_word, enter_listed};
 pub use parents::parents_of;
-pub use parts::{is_action, is_durative, part_of};
+pub use parts::{ActionKind, is_action, kind_of, part_of};
 pub use passes::{domain_fault, sections_of};
 pub use types::type_names;

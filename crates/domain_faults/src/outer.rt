@@ -62,7 +62,8 @@ fn form_fault(alloc: Global, at: u32, close: u32, parts: &[Form]) -> Result<Opti
 /// The first fault of a domain's file, but for the parts of its actions.
 #[tactic(auto, using(pddl_parts::proofs::Firsts::first_append))]
 pub fn declared_fault(alloc: Global, forms: &Forms) -> Result<Option<Fault>, NoMemory>
-    ensures { IfOk result (λ fault. fault ≡ first (declared_faults forms.now.bytes (trees_of forms.now.forms))) }
+    ensures { IfOk result (λ fault. fault
+        ≡ first (declared_faults forms.now.bytes (trees_of forms.now.forms))) }
 {
     match head_of(forms.forms.as_slice()) {
         Head::Missing => Ok(fault(Kind::Shape, forms.bytes)),

@@ -31,9 +31,11 @@ fn enter_type(
     word: &Word,
     parent: Option<u32>,
 ) -> Result<Option<Fault>, NoMemory>
-    ensures fault { IfOk result (λ fault. fault ≡ first (again_type seen.old parents.old word.now.at word.now.text parent)) }
+    ensures fault { IfOk result (λ fault. fault
+        ≡ first (again_type seen.old parents.old word.now.at word.now.text parent)) }
     ensures seen { OnOk result (seen.new ≡ with_name seen.old word.now.text) }
-    ensures parents { OnOk result (parents.new ≡ with_first seen.old parents.old word.now.text parent) }
+    ensures parents { OnOk result (parents.new
+        ≡ with_first seen.old parents.old word.now.text parent) }
 {
     let text = word.text.as_slice();
     let (_, fresh) = seen.enter(alloc, text)?;
@@ -51,8 +53,8 @@ fn enter_type(
     }
 }
 
-/// The parents of types by their first declarations, and the first fault of a type that is declared again. The parent
-/// of a group is looked up once.
+/// The parents of types by their first declarations, and the first fault of a type that is declared
+/// again. The parent of a group is looked up once.
 #[tactic(auto, using(pddl_parts::proofs::Firsts::first_onto))]
 pub fn parents_of(
     alloc: Global,
@@ -60,7 +62,9 @@ pub fn parents_of(
     members: &[Form],
 ) -> Result<(Table, Option<Fault>), NoMemory>
     ensures parents { IfOk result (λ r. r.0 ≡ parents_of types.now (trees_of members.now)) }
-    ensures fault { IfOk result (λ r. r.1 ≡ first (again_types types.now object_alone ((codes "object", 0) ∷ []) Start (trees_of members.now))) }
+    ensures fault { IfOk result (λ r. r.1
+        ≡ first (again_types types.now object_alone ((codes "object", 0) ∷ []) Start
+        (trees_of members.now))) }
 {
     let rule = Rule {
         variables: false,

@@ -8,13 +8,13 @@ use crate::actions::actions_fault;
 use crate::outer::declared_fault;
 use crate::parts::behind_name;
 use crate::scopes::scope_of;
-use crate::types::type_names;
-use pddl_parts::{Fault, members_of};
+use pddl_parts::Fault;
 use pddl_tokens::{Form, Forms, Head, head_of};
 use std::alloc::Global;
 use tp_spec::NoMemory;
 
-/// The sections of a domain, by the forms of its file: what stands in the first form behind `define` and what names it.
+/// The sections of a domain, by the forms of its file: what stands in the first form behind
+/// `define` and what names it.
 pub fn sections_of(forms: &[Form]) -> &[Form]
     ensures { trees_of result.now ≡ sections_of (trees_of forms.now) }
 {
@@ -30,16 +30,17 @@ fn acting_fault(alloc: Global, scale: u32, sections: &[Form]) -> Result<Option<F
     requires { IsScale scale }
     ensures { IfOk result (λ fault. fault ≡ first (acting_faults scale (trees_of sections.now))) }
 {
-    let types = type_names(alloc, members_of(b":types", sections))?;
     let scope = scope_of(alloc, sections)?;
-    actions_fault(alloc, &types, &scope, scale, sections)
+    actions_fault(alloc, &scope, scale, sections)
 }
 
-/// The first fault of a domain's file: that of its declarations, where they have one, else that of its actions. A
-/// number has a fault where it is not whole in units of `scale`, 1, 10, 100 or 1000. The error is want of memory.
+/// The first fault of a domain's file: that of its declarations, where they have one, else that of
+/// its actions. A number has a fault where it is not whole in units of `scale`, 1, 10, 100 or 1000.
+/// The error is want of memory.
 pub fn domain_fault(alloc: Global, scale: u32, forms: &Forms) -> Result<Option<Fault>, NoMemory>
     requires { IsScale scale }
-    ensures { IfOk result (λ fault. fault ≡ domain_fault scale forms.now.bytes (trees_of forms.now.forms)) }
+    ensures { IfOk result (λ fault. fault
+        ≡ domain_fault scale forms.now.bytes (trees_of forms.now.forms)) }
 {
     let declared = declared_fault(alloc, forms)?;
     match declared {

@@ -108,7 +108,8 @@ fn with_all_timed(
     label: &[u8],
     forms: &[Form],
 ) -> Result<List<u32>, NoMemory>
-    ensures { IfOk result (λ more. more ≡ places ++ all_timed_places label.now (trees_of forms.now)) }
+    ensures { IfOk result (λ more. more
+        ≡ places ++ all_timed_places label.now (trees_of forms.now)) }
 {
     let mut rest = forms;
     'members: loop {
@@ -140,7 +141,8 @@ fn past_fault(places: &[u32]) -> Option<Fault>
 
 /// The first effect of an instant action past the 4,096th.
 pub fn past_effect_fault(alloc: Global, at: u32, parts: &[Form]) -> Result<Option<Fault>, NoMemory>
-    ensures { IfOk result (λ fault. fault ≡ first (past_faults (effect_places at (trees_of parts.now)))) }
+    ensures { IfOk result (λ fault. fault
+        ≡ first (past_faults (effect_places at (trees_of parts.now)))) }
 {
     let places = with_effect(List::new(alloc), at, parts)?;
     Ok(past_fault(places.as_slice()))
@@ -152,7 +154,8 @@ pub fn past_timed_fault(
     label: &[u8],
     parts: &[Form],
 ) -> Result<Option<Fault>, NoMemory>
-    ensures { IfOk result (λ fault. fault ≡ first (past_faults (timed_places label.now (trees_of parts.now)))) }
+    ensures { IfOk result (λ fault. fault
+        ≡ first (past_faults (timed_places label.now (trees_of parts.now)))) }
 {
     let places = with_timed(List::new(alloc), label, parts)?;
     Ok(past_fault(places.as_slice()))

@@ -2,7 +2,8 @@ ghost use Rattle.std.specs.Prelude.{◌≡◌, IfOk};
 ghost use Rattle.pddl_tokens.specs.Trees.{trees_of};
 ghost use Rattle.domain_faults.specs.Scopes.{with_arity, with_arity_at, arities_of, scope_of};
 
-use crate::heads::{behind_list, behind_word};
+use crate::heads::{HeadKind, behind_list, behind_word};
+use crate::types::type_names;
 use crate::written::written_of;
 use pddl_parts::{Names, Part, Rule, Scope, Table, in_32_bits, is_thing, members_of, with_items};
 use pddl_tokens::{Form, Head, head_of};
@@ -40,10 +41,10 @@ fn with_arity_at(alloc: Global, table: Table, part: Part, parts: &[Form]) -> Res
     }
 }
 
-/// The heads among the members of `:predicates`, or of `:functions`, where `- number` may stand behind one, each with
-/// the number of its variables.
-pub fn arities_of(alloc: Global, numbers: bool, members: &[Form]) -> Result<Table, NoMemory>
-    ensures { IfOk result (λ table. table ≡ arities_of numbers (trees_of members.now)) }
+/// The heads among the members of `:predicates`, or of `:functions`, each with the number of its
+/// variables.
+pub fn arities_of(alloc: Global, kind: HeadKind, members: &[Form]) -> Result<Table, NoMemory>
+    ensures { IfOk result (λ table. table ≡ arities_of kind (trees_of members.now)) }
 {
     let mut table = Table::new(alloc);
     let mut part = Part::Start;
@@ -61,7 +62,7 @@ pub fn arities_of(alloc: Global, numbers: bool, members: &[Form]) -> Result<Tabl
                 ..
             } => {
                 table = with_arity_at(alloc, table, part, parts)?;
-                part = behind_list(numbers, part);
+                part = behind_list(kind, part);
                 rest = more;
             }
         }
@@ -78,9 +79,18 @@ pub fn scope_of(alloc: Global, sections: &[Form]) -> Result<Scope, NoMemory>
     };
     let constants = members_of(b":constants", sections);
     Ok(Scope {
+        types: type_names(alloc, members_of(b":types", sections))?,
         objects: with_items(alloc, rule, Names::new(alloc), constants)?,
-        predicates: arities_of(alloc, false, members_of(b":predicates", sections))?,
-        functions: arities_of(alloc, true, members_of(b":functions", sections))?,
+        predicates: arities_of(
+            alloc,
+            HeadKind::Predicates,
+            members_of(b":predicates", sections),
+        )?,
+        functions: arities_of(
+            alloc,
+            HeadKind::Functions,
+            members_of(b":functions", sections),
+        )?,
         written: written_of(alloc, sections)?,
     })
 }

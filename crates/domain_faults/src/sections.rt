@@ -1,14 +1,14 @@
 ghost use Rattle.std.specs.Prelude.{◌≡◌, IfOk, OnOk, []};
 ghost use Rattle.pddl_tokens.specs.Trees.{trees_of};
 ghost use Rattle.pddl_parts.specs.First.{first};
-ghost use Rattle.domain_faults.specs.Sections.{comes_once, constants_faults, members_faults, once_faults, section_faults, with_section, sections_faults};
+ghost use Rattle.domain_faults.specs.Sections.{comes_once, constants_faults, head_kind, members_faults, once_faults, section_faults, with_section, sections_faults};
 
-use crate::heads::heads_fault;
+use crate::heads::{HeadKind, heads_fault};
 use crate::parts::is_action;
 use crate::types::types_fault;
 use pddl_parts::{
     Fault, Kind, Names, Rule, earlier, enter_item, fault, misfit_list, misfit_word, repeat_fault,
-    requirements_fault, typed_fault,
+    requirements_fault, typed_fault, unfit_section,
 };
 use pddl_tokens::{Form, Head, Word, head_of};
 use std::alloc::Global;
@@ -32,7 +32,8 @@ fn constants_fault(
     close: u32,
     members: &[Form],
 ) -> Result<Option<Fault>, NoMemory>
-    ensures { IfOk result (λ fault. fault ≡ first (constants_faults types.now close (trees_of members.now))) }
+    ensures { IfOk result (λ fault. fault
+        ≡ first (constants_faults types.now close (trees_of members.now))) }
 {
     let rule = Rule {
         variables: false,
@@ -43,6 +44,17 @@ fn constants_fault(
     Ok(earlier(typed, again))
 }
 
+/// What `:predicates` or `:functions` declares.
+fn head_kind(text: &[u8]) -> HeadKind
+    ensures { result ≡ head_kind text.now }
+{
+    if text == b":functions".as_slice() {
+        HeadKind::Functions
+    } else {
+        HeadKind::Predicates
+    }
+}
+
 /// The first fault of the members of a section that comes once.
 fn members_fault(
     alloc: Global,
@@ -51,7 +63,8 @@ fn members_fault(
     close: u32,
     members: &[Form],
 ) -> Result<Option<Fault>, NoMemory>
-    ensures { IfOk result (λ fault. fault ≡ first (members_faults types.now text.now close (trees_of members.now))) }
+    ensures { IfOk result (λ fault. fault
+        ≡ first (members_faults types.now text.now close (trees_of members.now))) }
 {
     if text == b":requirements".as_slice() {
         Ok(requirements_fault(members))
@@ -60,13 +73,7 @@ fn members_fault(
     } else if text == b":constants".as_slice() {
         constants_fault(alloc, types, close, members)
     } else {
-        heads_fault(
-            alloc,
-            text == b":functions".as_slice(),
-            types,
-            close,
-            members,
-        )
+        heads_fault(alloc, head_kind(text), types, close, members)
     }
 }
 
@@ -79,7 +86,9 @@ fn once_fault(
     head: &Word,
     members: &[Form],
 ) -> Result<Option<Fault>, NoMemory>
-    ensures { IfOk result (λ fault. fault ≡ first (once_faults types.now seen.now close head.now.at head.now.text (trees_of members.now))) }
+    ensures { IfOk result (λ fault. fault
+        ≡ first (once_faults types.now seen.now close head.now.at head.now.text
+        (trees_of members.now))) }
 {
     if seen.has(head.text.as_slice()) {
         Ok(fault(Kind::Twice, head.at))
@@ -97,18 +106,19 @@ fn section_fault(
     close: u32,
     parts: &[Form],
 ) -> Result<Option<Fault>, NoMemory>
-    ensures { IfOk result (λ fault. fault ≡ first (section_faults types.now seen.now at close (trees_of parts.now))) }
+    ensures { IfOk result (λ fault. fault
+        ≡ first (section_faults types.now seen.now at close (trees_of parts.now))) }
 {
     match head_of(parts) {
         Head::Missing => Ok(misfit_list(at, parts)),
-        Head::List { at, parts, .. } => Ok(misfit_list(at, parts)),
+        Head::List { at, .. } => Ok(fault(Kind::Shape, at)),
         Head::Word(head, members) => {
             if comes_once(head.text.as_slice()) {
                 once_fault(alloc, types, seen, close, head, members)
             } else if is_action(head.text.as_slice()) {
                 Ok(None)
             } else {
-                Ok(misfit_word(head))
+                Ok(unfit_section(head, members))
             }
         }
     }
@@ -135,7 +145,8 @@ pub fn sections_fault(
     types: &Names,
     sections: &[Form],
 ) -> Result<Option<Fault>, NoMemory>
-    ensures { IfOk result (λ fault. fault ≡ first (sections_faults types.now [] (trees_of sections.now))) }
+    ensures { IfOk result (λ fault. fault
+        ≡ first (sections_faults types.now [] (trees_of sections.now))) }
 {
     let mut best = None;
     let mut seen = Names::new(alloc);

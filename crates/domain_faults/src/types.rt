@@ -10,8 +10,8 @@ use pddl_tokens::{Form, Head, head_of};
 use std::alloc::Global;
 use tp_spec::NoMemory;
 
-/// The types that the members of `:types` name, as a type or as a parent: `object` is number 0, and the others have
-/// their numbers in the order in which they first come.
+/// The types that the members of `:types` name, as a type or as a parent: `object` is number 0, and
+/// the others have their numbers in the order in which they first come.
 pub fn type_names(alloc: Global, members: &[Form]) -> Result<Names, NoMemory>
     ensures { IfOk result (λ names. names ≡ type_names (trees_of members.now)) }
 {
@@ -38,7 +38,8 @@ pub fn types_fault(
     close: u32,
     members: &[Form],
 ) -> Result<Option<Fault>, NoMemory>
-    ensures { IfOk result (λ fault. fault ≡ first (types_faults types.now close (trees_of members.now))) }
+    ensures { IfOk result (λ fault. fault
+        ≡ first (types_faults types.now close (trees_of members.now))) }
 {
     let rule = Rule {
         variables: false,

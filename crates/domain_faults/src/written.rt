@@ -2,7 +2,7 @@ ghost use Rattle.std.specs.Prelude.{◌≡◌, IfOk};
 ghost use Rattle.pddl_tokens.specs.Trees.{trees_of};
 ghost use Rattle.domain_faults.specs.Written.{with_target, with_effect, with_effects, with_labelled, with_at, with_timed, with_all_timed, with_section, written_of};
 
-use crate::parts::{behind_name, part_of};
+use crate::parts::{ActionKind, behind_name, part_of};
 use pddl_parts::{Names, is_update};
 use pddl_tokens::{Form, Head, head_of};
 use std::alloc::Global;
@@ -145,13 +145,13 @@ fn with_section(alloc: Global, names: Names, parts: &[Form]) -> Result<Names, No
                 with_effect(
                     alloc,
                     names,
-                    part_of(false, b":effect", behind_name(members)),
+                    part_of(ActionKind::Instant, b":effect", behind_name(members)),
                 )
             } else if text == b":durative-action".as_slice() {
                 with_timed(
                     alloc,
                     names,
-                    part_of(true, b":effect", behind_name(members)),
+                    part_of(ActionKind::Durative, b":effect", behind_name(members)),
                 )
             } else {
                 Ok(names)

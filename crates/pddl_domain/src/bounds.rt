@@ -22,7 +22,8 @@ fn with_bound(
     rest: &[Form],
 ) -> Result<List<Bound>, NoMemory>
     requires { IsScale scale }
-    ensures { IfOk result (λ more. more ≡ bounds ++ bound_of symbols.now variables.now scale text.now (trees_of rest.now)) }
+    ensures { IfOk result (λ more. more ≡ bounds
+        ++ bound_of symbols.now variables.now scale text.now (trees_of rest.now)) }
 {
     let value = operand_of(alloc, symbols, variables, scale, behind_first(rest))?;
     if text == b"=".as_slice() {
@@ -50,7 +51,8 @@ fn with_listed(
     parts: &[Form],
 ) -> Result<List<Bound>, NoMemory>
     requires { IsScale scale }
-    ensures { IfOk result (λ more. more ≡ bounds ++ listed_bound symbols.now variables.now scale (trees_of parts.now)) }
+    ensures { IfOk result (λ more. more ≡ bounds
+        ++ listed_bound symbols.now variables.now scale (trees_of parts.now)) }
 {
     match head_of(parts) {
         Head::Missing | Head::List { .. } => Ok(bounds),
@@ -77,7 +79,8 @@ fn with_first(
     members: &[Form],
 ) -> Result<List<Bound>, NoMemory>
     requires { IsScale scale }
-    ensures { IfOk result (λ more. more ≡ bounds ++ first_bound symbols.now variables.now scale (trees_of members.now)) }
+    ensures { IfOk result (λ more. more ≡ bounds
+        ++ first_bound symbols.now variables.now scale (trees_of members.now)) }
 {
     match head_of(members) {
         Head::Missing | Head::Word(..) => Ok(bounds),
@@ -95,7 +98,8 @@ fn with_constraint(
     parts: &[Form],
 ) -> Result<List<Bound>, NoMemory>
     requires { IsScale scale }
-    ensures { IfOk result (λ more. more ≡ bounds ++ constraint_of symbols.now variables.now scale (trees_of parts.now)) }
+    ensures { IfOk result (λ more. more ≡ bounds
+        ++ constraint_of symbols.now variables.now scale (trees_of parts.now)) }
 {
     match head_of(parts) {
         Head::Missing | Head::List { .. } => Ok(bounds),
@@ -119,7 +123,8 @@ fn constraints_of(
     forms: &[Form],
 ) -> Result<List<Bound>, NoMemory>
     requires { IsScale scale }
-    ensures { IfOk result (λ bounds. bounds ≡ constraints_of symbols.now variables.now scale (trees_of forms.now)) }
+    ensures { IfOk result (λ bounds. bounds
+        ≡ constraints_of symbols.now variables.now scale (trees_of forms.now)) }
 {
     let mut bounds = List::new(alloc);
     let mut rest = forms;
@@ -148,7 +153,8 @@ pub fn duration_of(
     parts: &[Form],
 ) -> Result<List<Bound>, NoMemory>
     requires { IsScale scale }
-    ensures { IfOk result (λ bounds. bounds ≡ duration_of symbols.now variables.now scale (trees_of parts.now)) }
+    ensures { IfOk result (λ bounds. bounds
+        ≡ duration_of symbols.now variables.now scale (trees_of parts.now)) }
 {
     match head_of(parts) {
         Head::Missing | Head::List { .. } => Ok(List::new(alloc)),

@@ -22,7 +22,8 @@ pub enum Bound {
     Most(Value),
 }
 
-/// An action over its parameters, of which `sorts` are the types. An instant action has no bounds, and a start alone.
+/// An action over its parameters, of which `sorts` are the types. An instant action has no bounds,
+/// and a start alone.
 ///
 /// PDDL 2.1, section 5 (durative actions with discretised effects).
 #[derive(Drop)]
@@ -37,8 +38,8 @@ pub struct Schema {
     pub end_effects: List<Change>,
 }
 
-/// What a PDDL domain declares. Types, constants, predicates and functions are named by their numbers from 0; lists are
-/// in the order of the text.
+/// What a PDDL domain declares. Types, constants, predicates and functions are named by their
+/// numbers from 0; lists are in the order of the text.
 #[derive(Drop)]
 pub struct Domain {
     pub name: Name,

@@ -19,7 +19,8 @@ fn with_first_condition(
     members: &[Form],
 ) -> Result<List<Condition>, NoMemory>
     requires { IsScale scale }
-    ensures { IfOk result (λ more. more ≡ listed ++ first_condition symbols.now variables.now scale (trees_of members.now)) }
+    ensures { IfOk result (λ more. more ≡ listed
+        ++ first_condition symbols.now variables.now scale (trees_of members.now)) }
 {
     match head_of(members) {
         Head::Missing | Head::Word(..) => Ok(listed),
@@ -37,7 +38,8 @@ fn with_labelled_condition(
     members: &[Form],
 ) -> Result<List<Condition>, NoMemory>
     requires { IsScale scale }
-    ensures { IfOk result (λ more. more ≡ listed ++ labelled_condition symbols.now variables.now scale label.now (trees_of members.now)) }
+    ensures { IfOk result (λ more. more ≡ listed
+        ++ labelled_condition symbols.now variables.now scale label.now (trees_of members.now)) }
 {
     match head_of(members) {
         Head::Missing | Head::List { .. } => Ok(listed),
@@ -64,7 +66,8 @@ fn with_timed_condition(
     parts: &[Form],
 ) -> Result<List<Condition>, NoMemory>
     requires { IsScale scale }
-    ensures { IfOk result (λ more. more ≡ listed ++ timed_condition symbols.now variables.now scale label.now (trees_of parts.now)) }
+    ensures { IfOk result (λ more. more ≡ listed
+        ++ timed_condition symbols.now variables.now scale label.now (trees_of parts.now)) }
 {
     match head_of(parts) {
         Head::Missing | Head::List { .. } => Ok(listed),
@@ -90,7 +93,8 @@ fn with_timed_conditions(
     forms: &[Form],
 ) -> Result<List<Condition>, NoMemory>
     requires { IsScale scale }
-    ensures { IfOk result (λ more. more ≡ listed ++ timed_conditions symbols.now variables.now scale label.now (trees_of forms.now)) }
+    ensures { IfOk result (λ more. more ≡ listed
+        ++ timed_conditions symbols.now variables.now scale label.now (trees_of forms.now)) }
 {
     let mut rest = forms;
     'members: loop {
@@ -121,7 +125,8 @@ pub fn timed_condition(
     parts: &[Form],
 ) -> Result<List<Condition>, NoMemory>
     requires { IsScale scale }
-    ensures { IfOk result (λ listed. listed ≡ timed_condition symbols.now variables.now scale label.now (trees_of parts.now)) }
+    ensures { IfOk result (λ listed. listed
+        ≡ timed_condition symbols.now variables.now scale label.now (trees_of parts.now)) }
 {
     with_timed_condition(
         alloc,
@@ -144,7 +149,8 @@ fn with_first_effect(
     members: &[Form],
 ) -> Result<List<Change>, NoMemory>
     requires { IsScale scale }
-    ensures { IfOk result (λ more. more ≡ listed ++ first_effect symbols.now variables.now scale (trees_of members.now)) }
+    ensures { IfOk result (λ more. more ≡ listed
+        ++ first_effect symbols.now variables.now scale (trees_of members.now)) }
 {
     match head_of(members) {
         Head::Missing | Head::Word(..) => Ok(listed),
@@ -162,7 +168,8 @@ fn with_labelled_effect(
     members: &[Form],
 ) -> Result<List<Change>, NoMemory>
     requires { IsScale scale }
-    ensures { IfOk result (λ more. more ≡ listed ++ labelled_effect symbols.now variables.now scale label.now (trees_of members.now)) }
+    ensures { IfOk result (λ more. more ≡ listed
+        ++ labelled_effect symbols.now variables.now scale label.now (trees_of members.now)) }
 {
     match head_of(members) {
         Head::Missing | Head::List { .. } => Ok(listed),
@@ -189,7 +196,8 @@ fn with_timed_effect(
     parts: &[Form],
 ) -> Result<List<Change>, NoMemory>
     requires { IsScale scale }
-    ensures { IfOk result (λ more. more ≡ listed ++ timed_effect symbols.now variables.now scale label.now (trees_of parts.now)) }
+    ensures { IfOk result (λ more. more ≡ listed
+        ++ timed_effect symbols.now variables.now scale label.now (trees_of parts.now)) }
 {
     match head_of(parts) {
         Head::Missing | Head::List { .. } => Ok(listed),
@@ -215,7 +223,8 @@ fn with_timed_effects(
     forms: &[Form],
 ) -> Result<List<Change>, NoMemory>
     requires { IsScale scale }
-    ensures { IfOk result (λ more. more ≡ listed ++ timed_effects symbols.now variables.now scale label.now (trees_of forms.now)) }
+    ensures { IfOk result (λ more. more ≡ listed
+        ++ timed_effects symbols.now variables.now scale label.now (trees_of forms.now)) }
 {
     let mut rest = forms;
     'members: loop {
@@ -244,7 +253,8 @@ pub fn timed_effect(
     parts: &[Form],
 ) -> Result<List<Change>, NoMemory>
     requires { IsScale scale }
-    ensures { IfOk result (λ listed. listed ≡ timed_effect symbols.now variables.now scale label.now (trees_of parts.now)) }
+    ensures { IfOk result (λ listed. listed
+        ≡ timed_effect symbols.now variables.now scale label.now (trees_of parts.now)) }
 {
     with_timed_effect(
         alloc,

@@ -12,8 +12,8 @@ use crate::bounds::duration_of;
 use crate::domain::{Bound, Domain, Head, Schema, Sort};
 use crate::labels::{timed_condition, timed_effect};
 use domain_faults::{
-    behind_list, behind_word, enter_listed, is_action, is_durative, parents_of, part_of,
-    sections_of, type_names, variables_of,
+    ActionKind, HeadKind, behind_list, behind_word, enter_listed, is_action, kind_of, parents_of,
+    part_of, sections_of, type_names, variables_of,
 };
 use pddl_meaning::{
     Change, Condition, Symbols, behind_first, name_of, objects_of, sorts_of, with_condition,
@@ -37,8 +37,8 @@ const OBJECTS: Rule = Rule {
 };
 
 /// The names of the heads among the members of `:predicates` or `:functions`.
-fn head_names(alloc: Global, numbers: bool, members: &[Form]) -> Result<Names, NoMemory>
-    ensures { IfOk result (λ names. names ≡ head_names numbers (trees_of members.now)) }
+fn head_names(alloc: Global, kind: HeadKind, members: &[Form]) -> Result<Names, NoMemory>
+    ensures { IfOk result (λ names. names ≡ head_names kind (trees_of members.now)) }
 {
     let mut names = Names::new(alloc);
     let mut part = Part::Start;
@@ -56,7 +56,7 @@ fn head_names(alloc: Global, numbers: bool, members: &[Form]) -> Result<Names, N
                 ..
             } => {
                 enter_listed(alloc, &mut names, part, parts)?;
-                part = behind_list(numbers, part);
+                part = behind_list(kind, part);
                 rest = more;
             }
         }
@@ -70,14 +70,27 @@ fn symbols_of(alloc: Global, sections: &[Form]) -> Result<Symbols, NoMemory>
     let constants = members_of(b":constants", sections);
     Ok(Symbols {
         objects: with_items(alloc, OBJECTS, Names::new(alloc), constants)?,
-        predicates: head_names(alloc, false, members_of(b":predicates", sections))?,
-        functions: head_names(alloc, true, members_of(b":functions", sections))?,
+        predicates: head_names(
+            alloc,
+            HeadKind::Predicates,
+            members_of(b":predicates", sections),
+        )?,
+        functions: head_names(
+            alloc,
+            HeadKind::Functions,
+            members_of(b":functions", sections),
+        )?,
     })
 }
 
 /// A type by its number, with its parent.
 fn sort_at(alloc: Global, types: &Names, parents: &Table, number: usize) -> Result<Sort, NoMemory>
-    ensures { IfOk result (λ sort. sort ≡ record { name = get_or types.now number []; parent = or_zero (value_of parents.now (get_or types.now number [])) }) }
+    ensures { IfOk result (λ sort. sort
+        ≡ record {
+          name = get_or types.now number [];
+          parent = or_zero
+              (value_of parents.now (get_or types.now number []));
+        }) }
 {
     let text = types.name_at(number);
     let parent = match parents.value(text) {
@@ -141,11 +154,12 @@ fn with_head_at(
 #[tactic(auto, using(std::proofs::Common::append_assoc))]
 fn heads_of(
     alloc: Global,
-    numbers: bool,
+    kind: HeadKind,
     types: &Names,
     members: &[Form],
 ) -> Result<List<Head>, NoMemory>
-    ensures { IfOk result (λ heads. heads ≡ heads_from numbers types.now Part.Start (trees_of members.now)) }
+    ensures { IfOk result (λ heads. heads
+        ≡ heads_from kind types.now Part.Start (trees_of members.now)) }
 {
     let mut heads = List::new(alloc);
     let mut part = Part::Start;
@@ -163,7 +177,7 @@ fn heads_of(
                 ..
             } => {
                 heads = with_head_at(alloc, heads, types, part, parts)?;
-                part = behind_list(numbers, part);
+                part = behind_list(kind, part);
                 rest = more;
             }
         }
@@ -180,12 +194,13 @@ fn instant_of(
     members: &[Form],
 ) -> Result<Schema, NoMemory>
     requires { IsScale scale }
-    ensures { IfOk result (λ schema. schema ≡ instant_of types.now symbols.now scale name.now (trees_of members.now)) }
+    ensures { IfOk result (λ schema. schema
+        ≡ instant_of types.now symbols.now scale name.now (trees_of members.now)) }
 {
-    let variables = variables_of(alloc, false, members)?;
+    let variables = variables_of(alloc, ActionKind::Instant, members)?;
     let name = name_of(alloc, name)?;
-    let sorts = sorts_in(alloc, false, types, members)?;
-    let condition = part_of(false, b":precondition", members);
+    let sorts = sorts_in(alloc, ActionKind::Instant, types, members)?;
+    let condition = part_of(ActionKind::Instant, b":precondition", members);
     let conditions = with_condition(
         alloc,
         List::new(alloc),
@@ -194,7 +209,7 @@ fn instant_of(
         scale,
         condition,
     )?;
-    let effect = part_of(false, b":effect", members);
+    let effect = part_of(ActionKind::Instant, b":effect", members);
     let effects = with_effect(alloc, List::new(alloc), symbols, &variables, scale, effect)?;
     Ok(Schema {
         name,
@@ -217,7 +232,8 @@ fn conditions_in(
     members: &[Form],
 ) -> Result<List<Condition>, NoMemory>
     requires { IsScale scale }
-    ensures { IfOk result (λ listed. listed ≡ conditions_in symbols.now variables.now scale label.now (trees_of members.now)) }
+    ensures { IfOk result (λ listed. listed
+        ≡ conditions_in symbols.now variables.now scale label.now (trees_of members.now)) }
 {
     timed_condition(
         alloc,
@@ -225,7 +241,7 @@ fn conditions_in(
         variables,
         scale,
         label,
-        part_of(true, b":condition", members),
+        part_of(ActionKind::Durative, b":condition", members),
     )
 }
 
@@ -238,7 +254,8 @@ fn effects_in(
     members: &[Form],
 ) -> Result<List<Change>, NoMemory>
     requires { IsScale scale }
-    ensures { IfOk result (λ listed. listed ≡ effects_in symbols.now variables.now scale label.now (trees_of members.now)) }
+    ensures { IfOk result (λ listed. listed
+        ≡ effects_in symbols.now variables.now scale label.now (trees_of members.now)) }
 {
     timed_effect(
         alloc,
@@ -246,7 +263,7 @@ fn effects_in(
         variables,
         scale,
         label,
-        part_of(true, b":effect", members),
+        part_of(ActionKind::Durative, b":effect", members),
     )
 }
 
@@ -258,31 +275,34 @@ fn bounds_in(
     members: &[Form],
 ) -> Result<List<Bound>, NoMemory>
     requires { IsScale scale }
-    ensures { IfOk result (λ listed. listed ≡ bounds_in symbols.now variables.now scale (trees_of members.now)) }
+    ensures { IfOk result (λ listed. listed
+        ≡ bounds_in symbols.now variables.now scale (trees_of members.now)) }
 {
     duration_of(
         alloc,
         symbols,
         variables,
         scale,
-        part_of(true, b":duration", members),
+        part_of(ActionKind::Durative, b":duration", members),
     )
 }
 
 /// The types of an action's parameters.
 fn sorts_in(
     alloc: Global,
-    durative: bool,
+    kind: ActionKind,
     types: &Names,
     members: &[Form],
 ) -> Result<List<u32>, NoMemory>
-    ensures { IfOk result (λ sorts. sorts ≡ sorts_from parameters types.now Part.Start (part_of durative (codes ":parameters") (trees_of members.now))) }
+    ensures { IfOk result (λ sorts. sorts
+        ≡ sorts_from parameters types.now Part.Start
+        (part_of kind (codes ":parameters") (trees_of members.now))) }
 {
     sorts_of(
         alloc,
         PARAMETERS,
         types,
-        part_of(durative, b":parameters", members),
+        part_of(kind, b":parameters", members),
     )
 }
 
@@ -297,10 +317,11 @@ fn durative_from(
     members: &[Form],
 ) -> Result<Schema, NoMemory>
     requires { IsScale scale }
-    ensures { IfOk result (λ schema. schema ≡ durative_from types.now symbols.now variables.now scale name.now (trees_of members.now)) }
+    ensures { IfOk result (λ schema. schema
+        ≡ durative_from types.now symbols.now variables.now scale name.now (trees_of members.now)) }
 {
     let name = name_of(alloc, name)?;
-    let sorts = sorts_in(alloc, true, types, members)?;
+    let sorts = sorts_in(alloc, ActionKind::Durative, types, members)?;
     let bounds = bounds_in(alloc, symbols, variables, scale, members)?;
     let start_conds = conditions_in(alloc, symbols, variables, scale, b"start", members)?;
     let all_conds = conditions_in(alloc, symbols, variables, scale, b"all", members)?;
@@ -329,15 +350,16 @@ fn durative_of(
     members: &[Form],
 ) -> Result<Schema, NoMemory>
     requires { IsScale scale }
-    ensures { IfOk result (λ schema. schema ≡ durative_of types.now symbols.now scale name.now (trees_of members.now)) }
+    ensures { IfOk result (λ schema. schema
+        ≡ durative_of types.now symbols.now scale name.now (trees_of members.now)) }
 {
-    let variables = variables_of(alloc, true, members)?;
+    let variables = variables_of(alloc, ActionKind::Durative, members)?;
     durative_from(alloc, types, symbols, &variables, scale, name, members)
 }
 
 fn schema_of(
     alloc: Global,
-    durative: bool,
+    kind: ActionKind,
     types: &Names,
     symbols: &Symbols,
     scale: u32,
@@ -345,12 +367,12 @@ fn schema_of(
     members: &[Form],
 ) -> Result<Schema, NoMemory>
     requires { IsScale scale }
-    ensures { IfOk result (λ schema. schema ≡ schema_of durative types.now symbols.now scale name.now (trees_of members.now)) }
+    ensures { IfOk result (λ schema. schema
+        ≡ schema_of kind types.now symbols.now scale name.now (trees_of members.now)) }
 {
-    if durative {
-        durative_of(alloc, types, symbols, scale, name, members)
-    } else {
-        instant_of(alloc, types, symbols, scale, name, members)
+    match kind {
+        ActionKind::Instant => instant_of(alloc, types, symbols, scale, name, members),
+        ActionKind::Durative => durative_of(alloc, types, symbols, scale, name, members),
     }
 }
 
@@ -358,20 +380,21 @@ fn schema_of(
 fn with_named(
     alloc: Global,
     mut schemas: List<Schema>,
-    durative: bool,
+    kind: ActionKind,
     types: &Names,
     symbols: &Symbols,
     scale: u32,
     members: &[Form],
 ) -> Result<List<Schema>, NoMemory>
     requires { IsScale scale }
-    ensures { IfOk result (λ more. more ≡ schemas ++ named_schema durative types.now symbols.now scale (trees_of members.now)) }
+    ensures { IfOk result (λ more. more ≡ schemas
+        ++ named_schema kind types.now symbols.now scale (trees_of members.now)) }
 {
     match head_of(members) {
         Look::Missing | Look::List { .. } => Ok(schemas),
         Look::Word(name, rest) => {
             let text = name.text.as_slice();
-            schemas.push(schema_of(alloc, durative, types, symbols, scale, text, rest)?)?;
+            schemas.push(schema_of(alloc, kind, types, symbols, scale, text, rest)?)?;
             Ok(schemas)
         }
     }
@@ -387,7 +410,8 @@ fn with_section(
     parts: &[Form],
 ) -> Result<List<Schema>, NoMemory>
     requires { IsScale scale }
-    ensures { IfOk result (λ more. more ≡ schemas ++ section_schema types.now symbols.now scale (trees_of parts.now)) }
+    ensures { IfOk result (λ more. more ≡ schemas
+        ++ section_schema types.now symbols.now scale (trees_of parts.now)) }
 {
     match head_of(parts) {
         Look::Missing | Look::List { .. } => Ok(schemas),
@@ -397,7 +421,7 @@ fn with_section(
                 with_named(
                     alloc,
                     schemas,
-                    is_durative(text),
+                    kind_of(text),
                     types,
                     symbols,
                     scale,
@@ -420,7 +444,8 @@ fn schemas_of(
     sections: &[Form],
 ) -> Result<List<Schema>, NoMemory>
     requires { IsScale scale }
-    ensures { IfOk result (λ schemas. schemas ≡ schemas_of types.now symbols.now scale (trees_of sections.now)) }
+    ensures { IfOk result (λ schemas. schemas
+        ≡ schemas_of types.now symbols.now scale (trees_of sections.now)) }
 {
     let mut schemas = List::new(alloc);
     let mut rest = sections;
@@ -475,15 +500,26 @@ fn domain_from(
     sections: &[Form],
 ) -> Result<Domain, NoMemory>
     requires { IsScale scale }
-    ensures { IfOk result (λ domain. domain ≡ domain_from name.now types.now symbols.now scale (trees_of sections.now)) }
+    ensures { IfOk result (λ domain. domain
+        ≡ domain_from name.now types.now symbols.now scale (trees_of sections.now)) }
 {
     let (parents, _) = parents_of(alloc, types, members_of(b":types", sections))?;
     Ok(Domain {
         name: name_of(alloc, name)?,
         types: each_sort(alloc, types, &parents)?,
         constants: objects_of(alloc, OBJECTS, types, members_of(b":constants", sections))?,
-        predicates: heads_of(alloc, false, types, members_of(b":predicates", sections))?,
-        functions: heads_of(alloc, true, types, members_of(b":functions", sections))?,
+        predicates: heads_of(
+            alloc,
+            HeadKind::Predicates,
+            types,
+            members_of(b":predicates", sections),
+        )?,
+        functions: heads_of(
+            alloc,
+            HeadKind::Functions,
+            types,
+            members_of(b":functions", sections),
+        )?,
         actions: schemas_of(alloc, types, symbols, scale, sections)?,
     })
 }

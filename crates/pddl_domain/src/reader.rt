@@ -11,8 +11,9 @@ use pddl_parts::PddlFault;
 use pddl_tokens::Forms;
 use std::alloc::Global;
 
-/// The domain that a file of words and lists says, where it has no fault; numbers and durations are in units of
-/// `scale`, 1, 10, 100 or 1000. Else the first fault: of the declarations, where they have one, or else of the actions.
+/// The domain that a file of words and lists says, where it has no fault; numbers and durations are
+/// in units of `scale`, 1, 10, 100 or 1000. Else the first fault: of the declarations, where they
+/// have one, or else of the actions.
 pub fn read_domain(alloc: Global, forms: &Forms, scale: u32) -> Result<Domain, PddlFault>
     requires { IsScale scale }
     ensures domain { IfOk result (λ d. d ≡ domain_of scale (trees_of forms.now.forms)) }

@@ -14,7 +14,8 @@ are_words End = true
 are_words (More (Leaf at text) rest) = are_words rest
 are_words (More (Node at close parts) rest) = false
 
--- words as one text: each has a blank behind it; words of letters alone hold none, so other words make another text
+-- words as one text: each has a blank behind it; words of letters alone hold none, so other words
+-- make another text
 abbrev pub joined_words : Trees → List ℕ
 joined_words End = []
 joined_words (More (Leaf at text) rest) = text ++ (32 ∷ joined_words rest)
@@ -46,13 +47,15 @@ behind_equal (More (Leaf head text) rest) = if bytes_eq text (codes "=") then re
 
 -- the value that an element gives to a function with words as arguments
 abbrev pub value_in : ℕ → Trees → Option ℤ
-value_in scale members = if are_words (first_list members) then first_number scale (behind_first members) else None
+value_in scale members =
+    if are_words (first_list members) then first_number scale (behind_first members) else None
 
 -- what stands behind `at` in a timed literal
 abbrev pub behind_at : Trees → Trees
 behind_at End = End
 behind_at (More (Node first end parts) rest) = End
-behind_at (More (Leaf head text) rest) = if bytes_eq text (codes "at") && is_dated rest then rest else End
+behind_at (More (Leaf head text) rest) =
+    if bytes_eq text (codes "at") && is_dated rest then rest else End
 
 -- a literal's sign
 abbrev pub is_positive : Trees → Bool
@@ -64,7 +67,8 @@ is_positive (More (Leaf head text) rest) = if bytes_eq text (codes "not") then f
 abbrev pub atom_in : Trees → Trees
 atom_in End = End
 atom_in (More (Node first end parts) rest) = End
-atom_in (More (Leaf head text) rest) = if bytes_eq text (codes "not") then first_list rest else More (Leaf head text) rest
+atom_in (More (Leaf head text) rest) =
+    if bytes_eq text (codes "not") then first_list rest else More (Leaf head text) rest
 
 -- the literal of a timed literal, by what stands behind `at`
 abbrev pub literal_in : Trees → Trees
@@ -73,13 +77,16 @@ literal_in members = first_list (behind_first members)
 -- the time at a scale that a numeral says, where one comes first; a numeral below 0 says none
 abbrev pub first_time : ℕ → Trees → Option ℤ
 first_time scale End = None
-first_time scale (More (Leaf at text) rest) = if is_below_zero text then None else result_ok (number_of scale text)
+first_time scale (More (Leaf at text) rest) =
+    if is_below_zero text then None else result_ok (number_of scale text)
 first_time scale (More (Node at close parts) rest) = None
 
 -- the time of a literal over words
 abbrev pub time_in : ℕ → Trees → Option ℤ
-time_in scale members = if are_words (atom_in (literal_in members)) then first_time scale members else None
+time_in scale members =
+    if are_words (atom_in (literal_in members)) then first_time scale members else None
 
--- a time and an atom as one text: the eight bytes of the tick come first, so another tick or another atom makes another text
+-- a time and an atom as one text: the eight bytes of the tick come first, so another tick or
+-- another atom makes another text
 abbrev pub dated_words : ℤ → List ℕ → List ℕ
 dated_words time words = to_be_bytes w64 (unsigned_abs time) ++ words

@@ -36,6 +36,7 @@ with_heads table (h ∷ heads) = with_heads (with_value table h.name (length h.s
 abbrev pub scope_of : Domain → Trees → Scope
 scope_of domain members =
     record {
+      types = with_sorts [] domain.types;
       objects = with_items objects (with_constants [] domain.constants) Start members;
       predicates = with_heads [] domain.predicates;
       functions = with_heads [] domain.functions;

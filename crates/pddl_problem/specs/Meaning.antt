@@ -41,12 +41,15 @@ symbols_of domain members =
 -- objects without those of these names
 abbrev pub without : List (List ℕ) → List Object → List Object
 without names [] = []
-without names (o ∷ listed) = if list_any (bytes_eq o.name) names then without names listed else o ∷ without names listed
+without names (o ∷ listed) =
+    if list_any (bytes_eq o.name) names then without names listed else o ∷ without names listed
 
 -- the domain's constants, and the members of `:objects` that are none of them
 abbrev pub objects_of : Domain → Trees → List Object
 objects_of domain members =
-    domain.constants ++ without (with_constants [] domain.constants) (objects_from objects (with_sorts [] domain.types) Start members)
+    domain.constants
+    ++ without (with_constants [] domain.constants)
+    (objects_from objects (with_sorts [] domain.types) Start members)
 
 -- a predicate or a function of these names, with its arguments
 abbrev pub ground_atom : Symbols → List (List ℕ) → Trees → Atom
@@ -58,7 +61,8 @@ ground_atom symbols names (More (Leaf head text) rest) = atom_of symbols [] name
 abbrev pub fact_of : Symbols → Trees → List Atom
 fact_of symbols End = []
 fact_of symbols (More (Node first end parts) rest) = []
-fact_of symbols (More (Leaf head text) rest) = if is_fact text rest then atom_of symbols [] symbols.predicates text rest ∷ [] else []
+fact_of symbols (More (Leaf head text) rest) =
+    if is_fact text rest then atom_of symbols [] symbols.predicates text rest ∷ [] else []
 
 abbrev pub facts_of : Symbols → Trees → List Atom
 facts_of symbols End = []
@@ -68,13 +72,16 @@ facts_of symbols (More (Node at close parts) rest) = fact_of symbols parts ++ fa
 -- a function and its value, by what stands behind `=`
 abbrev pub given_of : Symbols → Trees → Option ℤ → List Given
 given_of symbols members None = []
-given_of symbols members (Some value) = record { target = ground_atom symbols symbols.functions (first_list members); value = value } ∷ []
+given_of symbols members (Some value) =
+    record { target = ground_atom symbols symbols.functions (first_list members); value = value }
+    ∷ []
 
 abbrev pub values_of : Symbols → ℕ → Trees → List Given
 values_of symbols scale End = []
 values_of symbols scale (More (Leaf at text) rest) = values_of symbols scale rest
 values_of symbols scale (More (Node at close parts) rest) =
-    given_of symbols (behind_equal parts) (first_number scale (behind_first (behind_equal parts))) ++ values_of symbols scale rest
+    given_of symbols (behind_equal parts) (first_number scale (behind_first (behind_equal parts)))
+    ++ values_of symbols scale rest
 
 -- a literal and its tick, by what stands behind `at`
 abbrev pub dated_of : Symbols → Trees → Option ℤ → List Dated
@@ -91,9 +98,11 @@ abbrev pub timed_of : Symbols → ℕ → Trees → List Dated
 timed_of symbols scale End = []
 timed_of symbols scale (More (Leaf at text) rest) = timed_of symbols scale rest
 timed_of symbols scale (More (Node at close parts) rest) =
-    dated_of symbols (behind_at parts) (first_number scale (behind_at parts)) ++ timed_of symbols scale rest
+    dated_of symbols (behind_at parts) (first_number scale (behind_at parts))
+    ++ timed_of symbols scale rest
 
--- a problem over these symbols, by the members of its `:objects` and `:init`, and those of its goal's list
+-- a problem over these symbols, by the members of its `:objects` and `:init`, and those of its
+-- goal's list
 abbrev pub task_from : Domain → Symbols → ℕ → Trees → Trees → Trees → Task
 task_from domain symbols scale listed init goal =
     record {
@@ -108,7 +117,8 @@ task_from domain symbols scale listed init goal =
 abbrev pub task_in : Domain → ℕ → Trees → Task
 task_in domain scale sections =
     task_from domain (symbols_of domain (members_of (codes ":objects") sections)) scale
-    (members_of (codes ":objects") sections) (members_of (codes ":init") sections) (first_list (members_of (codes ":goal") sections))
+    (members_of (codes ":objects") sections) (members_of (codes ":init") sections)
+    (first_list (members_of (codes ":goal") sections))
 
 -- the problem that a file without a fault says, over its domain and at a scale
 abbrev pub task_of : Domain → ℕ → Trees → Task

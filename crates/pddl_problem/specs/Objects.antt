@@ -19,15 +19,18 @@ again_object (Some s) None seen at text = fault Twice at ∷ []
 again_object (Some s) (Some t) seen at text = if nat_eq s t then [] else fault Twice at ∷ []
 
 -- each object that came before
-abbrev pub again_objects : List (List ℕ) → List (List ℕ × ℕ) → List (List ℕ) → Part → Trees → List Fault
+abbrev pub again_objects : List (List ℕ) → List (List ℕ × ℕ) → List (List ℕ) → Part → Trees
+    → List Fault
 again_objects types constants seen part End = []
 again_objects types constants seen part (More (Leaf at text) rest) =
     if is_item objects part text then
     again_object (value_of constants text) (parent_behind types rest) seen at text
     ++ again_objects types constants (with_name seen text) (next part text) rest
     else again_objects types constants seen (next part text) rest
-again_objects types constants seen part (More (Node at close members) rest) = again_objects types constants seen (next_of_list part) rest
+again_objects types constants seen part (More (Node at close members) rest) =
+    again_objects types constants seen (next_of_list part) rest
 
 -- what is wrong with the members of `:objects`
 abbrev pub objects_faults : List (List ℕ) → List (List ℕ × ℕ) → ℕ → Trees → List Fault
-objects_faults types constants close members = typed_faults objects types close Start members ++ again_objects types constants [] Start members
+objects_faults types constants close members =
+    typed_faults objects types close Start members ++ again_objects types constants [] Start members

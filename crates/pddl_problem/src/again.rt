@@ -24,7 +24,8 @@ fn value_at(values: &[i64], number: usize) -> i64
     }
 }
 
-/// Enters the value of a fluent by the fluent's text, and says what is wrong where it has another one.
+/// Enters the value of a fluent by the fluent's text, and says what is wrong where it has another
+/// one.
 fn enter_value(
     alloc: Global,
     fluents: &mut Names,
@@ -33,9 +34,11 @@ fn enter_value(
     text: &[u8],
     value: i64,
 ) -> Result<Option<Fault>, NoMemory>
-    ensures fault { IfOk result (λ fault. fault ≡ first (again_value fluents.old values.old at text.now (Some value))) }
+    ensures fault { IfOk result (λ fault. fault
+        ≡ first (again_value fluents.old values.old at text.now (Some value))) }
     ensures fluents { OnOk result (fluents.new ≡ with_fluent fluents.old text.now (Some value)) }
-    ensures values { OnOk result (values.new ≡ with_first fluents.old values.old text.now (Some value)) }
+    ensures values { OnOk result (values.new
+        ≡ with_first fluents.old values.old text.now (Some value)) }
 {
     let (number, fresh) = fluents.enter(alloc, text)?;
     if fresh {
@@ -58,9 +61,16 @@ fn enter_given(
     members: &[Form],
 ) -> Result<Option<Fault>, NoMemory>
     requires { IsScale scale }
-    ensures fault { IfOk result (λ fault. fault ≡ first (again_value fluents.old values.old at (joined_words (first_list (trees_of members.now))) (value_in scale (trees_of members.now)))) }
-    ensures fluents { OnOk result (fluents.new ≡ with_fluent fluents.old (joined_words (first_list (trees_of members.now))) (value_in scale (trees_of members.now))) }
-    ensures values { OnOk result (values.new ≡ with_first fluents.old values.old (joined_words (first_list (trees_of members.now))) (value_in scale (trees_of members.now))) }
+    ensures fault { IfOk result (λ fault. fault
+        ≡ first (again_value fluents.old values.old at
+        (joined_words (first_list (trees_of members.now)))
+        (value_in scale (trees_of members.now)))) }
+    ensures fluents { OnOk result (fluents.new
+        ≡ with_fluent fluents.old (joined_words (first_list (trees_of members.now)))
+        (value_in scale (trees_of members.now))) }
+    ensures values { OnOk result (values.new
+        ≡ with_first fluents.old values.old (joined_words (first_list (trees_of members.now)))
+        (value_in scale (trees_of members.now))) }
 {
     match value_in(scale, members) {
         None => Ok(None),
@@ -75,7 +85,8 @@ fn enter_given(
 #[tactic(auto, using(pddl_parts::proofs::Firsts::first_onto))]
 pub fn values_fault(alloc: Global, scale: u32, members: &[Form]) -> Result<Option<Fault>, NoMemory>
     requires { IsScale scale }
-    ensures { IfOk result (λ fault. fault ≡ first (values_faults scale [] [] (trees_of members.now))) }
+    ensures { IfOk result (λ fault. fault
+        ≡ first (values_faults scale [] [] (trees_of members.now))) }
 {
     let mut best = None;
     let mut fluents = Names::new(alloc);
@@ -100,7 +111,8 @@ pub fn values_fault(alloc: Global, scale: u32, members: &[Form]) -> Result<Optio
     }
 }
 
-/// Enters a timed atom among those of its sign, and says what is wrong where it is among the others.
+/// Enters a timed atom among those of its sign, and says what is wrong where it is among the
+/// others.
 fn enter_atom(
     alloc: Global,
     begun: &mut Names,
@@ -109,7 +121,8 @@ fn enter_atom(
     positive: bool,
     text: &[u8],
 ) -> Result<Option<Fault>, NoMemory>
-    ensures fault { IfOk result (λ fault. fault ≡ first (clash_of (if positive then ended.old else begun.old) at text.now)) }
+    ensures fault { IfOk result (λ fault. fault
+        ≡ first (clash_of (if positive then ended.old else begun.old) at text.now)) }
     ensures begun { OnOk result (begun.new ≡ with_atom begun.old positive text.now) }
     ensures ended { OnOk result (ended.new ≡ with_atom ended.old (not positive) text.now) }
 {
@@ -140,9 +153,19 @@ fn enter_dated(
     members: &[Form],
 ) -> Result<Option<Fault>, NoMemory>
     requires { IsScale scale }
-    ensures fault { IfOk result (λ fault. fault ≡ first (clash (if is_positive (literal_in (trees_of members.now)) then ended.old else begun.old) at (joined_words (atom_in (literal_in (trees_of members.now)))) (time_in scale (trees_of members.now)))) }
-    ensures begun { OnOk result (begun.new ≡ with_dated begun.old (is_positive (literal_in (trees_of members.now))) (joined_words (atom_in (literal_in (trees_of members.now)))) (time_in scale (trees_of members.now))) }
-    ensures ended { OnOk result (ended.new ≡ with_dated ended.old (not (is_positive (literal_in (trees_of members.now)))) (joined_words (atom_in (literal_in (trees_of members.now)))) (time_in scale (trees_of members.now))) }
+    ensures fault { IfOk result (λ fault. fault
+        ≡ first (clash
+        (if is_positive (literal_in (trees_of members.now)) then ended.old else begun.old) at
+        (joined_words (atom_in (literal_in (trees_of members.now))))
+        (time_in scale (trees_of members.now)))) }
+    ensures begun { OnOk result (begun.new
+        ≡ with_dated begun.old (is_positive (literal_in (trees_of members.now)))
+        (joined_words (atom_in (literal_in (trees_of members.now))))
+        (time_in scale (trees_of members.now))) }
+    ensures ended { OnOk result (ended.new
+        ≡ with_dated ended.old (not (is_positive (literal_in (trees_of members.now))))
+        (joined_words (atom_in (literal_in (trees_of members.now))))
+        (time_in scale (trees_of members.now))) }
 {
     match time_in(scale, members) {
         None => Ok(None),
@@ -166,7 +189,8 @@ fn enter_dated(
 #[tactic(auto, using(pddl_parts::proofs::Firsts::first_onto))]
 pub fn clashes_fault(alloc: Global, scale: u32, members: &[Form]) -> Result<Option<Fault>, NoMemory>
     requires { IsScale scale }
-    ensures { IfOk result (λ fault. fault ≡ first (clashes_faults scale [] [] (trees_of members.now))) }
+    ensures { IfOk result (λ fault. fault
+        ≡ first (clashes_faults scale [] [] (trees_of members.now))) }
 {
     let mut best = None;
     let mut begun = Names::new(alloc);

@@ -204,10 +204,13 @@ pub fn dated_words(alloc: Global, time: i64, words: &[u8]) -> Result<Vec<u8>, No
     with_bytes(with_bytes(Vec::new(alloc), &tick)?, words)
 }
 
-/// Words of letters alone have one text only if they are the same words, and a time and an atom's text have one text only if
-/// the tick is the same and the atom's text: so what comes again under a text comes again under what it stands for.
+/// Words of letters alone have one text only if they are the same words, and a time and an atom's
+/// text have one text only if the tick is the same and the atom's text: so what comes again under a
+/// text comes again under what it stands for.
 #[tactic(auto, using(crate::proofs::Texts::same_date))]
 pub fn texts_are_apart()
-    ensures words { (ts us : Trees) → have_letters ts ≡ true → have_letters us ≡ true → joined_words ts ≡ joined_words us → texts_of ts ≡ texts_of us }
-    ensures dated { (s t : ℤ) (a b : Bytes ℕ) → unsigned_abs s < 2 ^ 64 → unsigned_abs t < 2 ^ 64 → dated_words s a ≡ dated_words t b → (unsigned_abs s ≡ unsigned_abs t) × (a ≡ b) }
+    ensures words { (ts us : Trees) → have_letters ts ≡ true → have_letters us ≡ true
+        → joined_words ts ≡ joined_words us → texts_of ts ≡ texts_of us }
+    ensures dated { (s t : ℤ) (a b : Bytes ℕ) → unsigned_abs s < 2 ^ 64 → unsigned_abs t < 2 ^ 64
+        → dated_words s a ≡ dated_words t b → (unsigned_abs s ≡ unsigned_abs t) × (a ≡ b) }
 {}

@@ -83,6 +83,7 @@ pub fn scope_of(alloc: Global, domain: &Domain, members: &[Form]) -> Result<Scop
 {
     let constants = constant_names(alloc, domain)?;
     Ok(Scope {
+        types: types_of(alloc, domain)?,
         objects: with_items(alloc, OBJECTS, constants, members)?,
         predicates: with_heads(alloc, Table::new(alloc), domain.predicates.as_slice())?,
         functions: with_heads(alloc, Table::new(alloc), domain.functions.as_slice())?,

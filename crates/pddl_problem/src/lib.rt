@@ -1,8 +1,9 @@
 //! What a PDDL problem says, or its first fault, exactly.
 //!
-//! What is wrong with a text is a list of faults, a definition in `specs/`, over two passes: `:domain`, `:objects` and the
-//! form of the file, then `:init` and `:goal`. [`read_problem`] answers the first fault of the first pass that has one,
-//! and else the problem, which is a definition over the same tree of words and lists.
+//! What is wrong with a text is a list of faults, a definition in `specs/`, over two passes:
+//! `:domain`, `:objects` and the form of the file, then `:init` and `:goal`. [`read_problem`]
+//! answers the first fault of the first pass that has one, and else the problem, which is a
+//! definition over the same tree of words and lists.
 #![tactic(auto)]
 
 mod again;
@@ -20,6 +21,3 @@ mod task;
 pub use elements::texts_are_apart;
 pub use reader::read_problem;
 pub use task::{Dated, Given, Task};
-
-#[cfg(test)]
-mod tests;

@@ -4,23 +4,25 @@ ghost use Rattle.pddl_tokens.specs.Trees.{trees_of};
 ghost use Rattle.std.specs.Prelude.{nat_lt, ◌&&◌};
 ghost use Rattle.std.specs.List.{list_any};
 ghost use Rattle.pddl_parts.specs.First.{first};
+ghost use Rattle.pddl_parts.specs.Settings.{setting_of};
 ghost use Rattle.pddl_problem.specs.Literals.{object_faults, arguments_faults, ground_faults, is_dated, is_fact, denied_faults, negated_faults, is_assignment, undone_faults, ending_faults, literal_faults, is_below_zero, time_faults, dated_literal_faults, dated_faults};
 
 use pddl_parts::{
-    Fault, Kind, Scope, Table, arity_fault, begins_with, earlier, fault, is_atom_word, is_left_out,
-    is_name, known_fault, misfit_list, misfit_word, name_fault, numeral_fault, surplus_fault,
+    Context, Fault, Kind, Table, arity_fault, begins_with, earlier, fault, is_atom_word,
+    is_head_word, is_left_out, is_literal, is_name, known_fault, misfit_list, misfit_word,
+    name_fault, numeral_fault, surplus_fault,
 };
 use pddl_tokens::{Form, Head, Word, head_of, is_numeral};
 
 /// What is wrong with a word where an object is to stand.
-fn object_fault(scope: &Scope, word: &Word) -> Option<Fault>
-    ensures { result ≡ first (object_faults scope.now word.now.at word.now.text) }
+fn object_fault(context: &Context<'_>, word: &Word) -> Option<Fault>
+    ensures { result ≡ first (object_faults (setting_of context.now) word.now.at word.now.text) }
 {
     let text = word.text.as_slice();
     if is_left_out(text) {
         fault(Kind::LeftOut, word.at)
     } else if is_name(word) {
-        known_fault(scope.objects.has(text), word.at)
+        known_fault(context.scope.objects.has(text), word.at)
     } else {
         fault(Kind::Shape, word.at)
     }
@@ -28,8 +30,8 @@ fn object_fault(scope: &Scope, word: &Word) -> Option<Fault>
 
 /// The first fault of some objects.
 #[tactic(auto, using(pddl_parts::proofs::Firsts::first_onto))]
-fn arguments_fault(scope: &Scope, forms: &[Form]) -> Option<Fault>
-    ensures { result ≡ first (arguments_faults scope.now (trees_of forms.now)) }
+fn arguments_fault(context: &Context<'_>, forms: &[Form]) -> Option<Fault>
+    ensures { result ≡ first (arguments_faults (setting_of context.now) (trees_of forms.now)) }
 {
     let mut best = None;
     let mut rest = forms;
@@ -37,7 +39,7 @@ fn arguments_fault(scope: &Scope, forms: &[Form]) -> Option<Fault>
         match head_of(rest) {
             Head::Missing => return best,
             Head::Word(word, more) => {
-                best = earlier(best, object_fault(scope, word));
+                best = earlier(best, object_fault(context, word));
                 rest = more;
             }
             Head::List {
@@ -56,18 +58,19 @@ fn arguments_fault(scope: &Scope, forms: &[Form]) -> Option<Fault>
 /// The first fault of a list of a name of this table and objects.
 #[tactic(auto, using(pddl_parts::proofs::Firsts::first_append))]
 pub fn ground_fault(
-    scope: &Scope,
+    context: &Context<'_>,
     table: &Table,
     at: u32,
     head: &Word,
     arguments: &[Form],
 ) -> Option<Fault>
-    ensures { result ≡ first (ground_faults scope.now table.now at head.now.at head.now.text (trees_of arguments.now)) }
+    ensures { result ≡ first (ground_faults (setting_of context.now) table.now at head.now.at
+        head.now.text (trees_of arguments.now)) }
 {
     let arity = arity_fault(table.value(head.text.as_slice()), head.at, at, arguments);
     earlier(
         name_fault(head),
-        earlier(arity, arguments_fault(scope, arguments)),
+        earlier(arity, arguments_fault(context, arguments)),
     )
 }
 
@@ -86,26 +89,24 @@ pub fn is_dated(forms: &[Form]) -> bool
     }
 }
 
-/// Whether a list is an atom by its first word, and has no other form in `:init`.
+/// Whether an element of `:init` is an atom by its first word, and has no other form.
 pub fn is_fact(head: &Word, rest: &[Form]) -> bool
     ensures { result ≡ is_fact head.now.text (trees_of rest.now) }
 {
     let text = head.text.as_slice();
-    is_atom_word(head)
-        && !(text == b"not".as_slice()
-            || text == b"=".as_slice()
-            || (text == b"at".as_slice() && is_dated(rest)))
+    is_head_word(head) && !(text == b"=".as_slice() || (text == b"at".as_slice() && is_dated(rest)))
 }
 
 /// The first fault of a list behind `not`, which stands at `before`.
-fn denied_fault(scope: &Scope, before: u32, at: u32, parts: &[Form]) -> Option<Fault>
-    ensures { result ≡ first (denied_faults scope.now before at (trees_of parts.now)) }
+fn denied_fault(context: &Context<'_>, before: u32, at: u32, parts: &[Form]) -> Option<Fault>
+    ensures { result ≡ first (denied_faults (setting_of context.now) before at
+        (trees_of parts.now)) }
 {
     match head_of(parts) {
         Head::Missing | Head::List { .. } => fault(Kind::LeftOut, before),
         Head::Word(head, rest) => {
-            if is_fact(head, rest) {
-                ground_fault(scope, &scope.predicates, at, head, rest)
+            if is_literal(head, rest) {
+                ground_fault(context, &context.scope.predicates, at, head, rest)
             } else {
                 fault(Kind::LeftOut, before)
             }
@@ -115,8 +116,14 @@ fn denied_fault(scope: &Scope, before: u32, at: u32, parts: &[Form]) -> Option<F
 
 /// The first fault behind `not`, which stands at `before`.
 #[tactic(auto, using(pddl_parts::proofs::Firsts::first_append))]
-pub fn negated_fault(scope: &Scope, before: u32, close: u32, members: &[Form]) -> Option<Fault>
-    ensures { result ≡ first (negated_faults scope.now before close (trees_of members.now)) }
+pub fn negated_fault(
+    context: &Context<'_>,
+    before: u32,
+    close: u32,
+    members: &[Form],
+) -> Option<Fault>
+    ensures { result ≡ first (negated_faults (setting_of context.now) before close
+        (trees_of members.now)) }
 {
     match head_of(members) {
         Head::Missing => fault(Kind::Shape, close),
@@ -126,7 +133,10 @@ pub fn negated_fault(scope: &Scope, before: u32, close: u32, members: &[Form]) -
             parts,
             rest,
             ..
-        } => earlier(denied_fault(scope, before, at, parts), surplus_fault(rest)),
+        } => earlier(
+            denied_fault(context, before, at, parts),
+            surplus_fault(rest),
+        ),
     }
 }
 
@@ -137,19 +147,19 @@ fn is_assignment(text: &[u8]) -> bool
 }
 
 /// The first fault of a list behind `not` in a timed literal.
-fn undone_fault(scope: &Scope, before: u32, at: u32, parts: &[Form]) -> Option<Fault>
-    ensures { result ≡ first (undone_faults scope.now before at (trees_of parts.now)) }
+fn undone_fault(context: &Context<'_>, before: u32, at: u32, parts: &[Form]) -> Option<Fault>
+    ensures { result ≡ first (undone_faults (setting_of context.now) before at
+        (trees_of parts.now)) }
 {
     match head_of(parts) {
         Head::Missing | Head::List { .. } => fault(Kind::LeftOut, before),
         Head::Word(head, rest) => {
-            let text = head.text.as_slice();
-            if is_assignment(text) {
-                fault(Kind::LeftOut, head.at)
-            } else if is_atom_word(head) && !(text == b"not".as_slice()) {
-                ground_fault(scope, &scope.predicates, at, head, rest)
-            } else {
+            if !is_literal(head, rest) {
                 fault(Kind::LeftOut, before)
+            } else if is_assignment(head.text.as_slice()) {
+                fault(Kind::LeftOut, head.at)
+            } else {
+                ground_fault(context, &context.scope.predicates, at, head, rest)
             }
         }
     }
@@ -157,8 +167,9 @@ fn undone_fault(scope: &Scope, before: u32, at: u32, parts: &[Form]) -> Option<F
 
 /// The first fault behind `not` in a timed literal.
 #[tactic(auto, using(pddl_parts::proofs::Firsts::first_append))]
-fn ending_fault(scope: &Scope, before: u32, close: u32, members: &[Form]) -> Option<Fault>
-    ensures { result ≡ first (ending_faults scope.now before close (trees_of members.now)) }
+fn ending_fault(context: &Context<'_>, before: u32, close: u32, members: &[Form]) -> Option<Fault>
+    ensures { result ≡ first (ending_faults (setting_of context.now) before close
+        (trees_of members.now)) }
 {
     match head_of(members) {
         Head::Missing => fault(Kind::Shape, close),
@@ -168,24 +179,28 @@ fn ending_fault(scope: &Scope, before: u32, close: u32, members: &[Form]) -> Opt
             parts,
             rest,
             ..
-        } => earlier(undone_fault(scope, before, at, parts), surplus_fault(rest)),
+        } => earlier(
+            undone_fault(context, before, at, parts),
+            surplus_fault(rest),
+        ),
     }
 }
 
 /// The first fault of a list that is to be a timed literal.
-fn literal_fault(scope: &Scope, at: u32, close: u32, parts: &[Form]) -> Option<Fault>
-    ensures { result ≡ first (literal_faults scope.now at close (trees_of parts.now)) }
+fn literal_fault(context: &Context<'_>, at: u32, close: u32, parts: &[Form]) -> Option<Fault>
+    ensures { result ≡ first (literal_faults (setting_of context.now) at close
+        (trees_of parts.now)) }
 {
     match head_of(parts) {
         Head::Missing | Head::List { .. } => misfit_list(at, parts),
         Head::Word(head, rest) => {
             let text = head.text.as_slice();
             if text == b"not".as_slice() {
-                ending_fault(scope, head.at, close, rest)
+                ending_fault(context, head.at, close, rest)
             } else if is_assignment(text) {
                 fault(Kind::LeftOut, head.at)
             } else if is_atom_word(head) {
-                ground_fault(scope, &scope.predicates, at, head, rest)
+                ground_fault(context, &context.scope.predicates, at, head, rest)
             } else {
                 misfit_list(at, parts)
             }
@@ -206,20 +221,21 @@ pub fn is_below_zero(text: &[u8]) -> bool
     begins_with(b'-', text) && has_digit(text)
 }
 
-fn time_fault(scale: u32, word: &Word) -> Option<Fault>
-    requires { IsScale scale }
-    ensures { result ≡ first (time_faults scale word.now.at word.now.text) }
+fn time_fault(context: &Context<'_>, word: &Word) -> Option<Fault>
+    requires { IsScale context.now.scale }
+    ensures { result ≡ first (time_faults (setting_of context.now) word.now.at word.now.text) }
 {
     if is_below_zero(word.text.as_slice()) {
         fault(Kind::Shape, word.at)
     } else {
-        numeral_fault(false, scale, word)
+        numeral_fault(context, word)
     }
 }
 
 #[tactic(auto, using(pddl_parts::proofs::Firsts::first_append))]
-fn dated_literal_fault(scope: &Scope, members: &[Form]) -> Option<Fault>
-    ensures { result ≡ first (dated_literal_faults scope.now (trees_of members.now)) }
+fn dated_literal_fault(context: &Context<'_>, members: &[Form]) -> Option<Fault>
+    ensures { result ≡ first (dated_literal_faults (setting_of context.now)
+        (trees_of members.now)) }
 {
     match head_of(members) {
         Head::Missing => None,
@@ -229,15 +245,18 @@ fn dated_literal_fault(scope: &Scope, members: &[Form]) -> Option<Fault>
             close,
             parts,
             rest,
-        } => earlier(literal_fault(scope, at, close, parts), surplus_fault(rest)),
+        } => earlier(
+            literal_fault(context, at, close, parts),
+            surplus_fault(rest),
+        ),
     }
 }
 
-/// The first fault behind `at` of a timed literal; times are whole at `scale` and not below 0.
+/// The first fault behind `at` of a timed literal; times are whole at the scale and not below 0.
 #[tactic(auto, using(pddl_parts::proofs::Firsts::first_append))]
-pub fn dated_fault(scope: &Scope, scale: u32, members: &[Form]) -> Option<Fault>
-    requires { IsScale scale }
-    ensures { result ≡ first (dated_faults scope.now scale (trees_of members.now)) }
+pub fn dated_fault(context: &Context<'_>, members: &[Form]) -> Option<Fault>
+    requires { IsScale context.now.scale }
+    ensures { result ≡ first (dated_faults (setting_of context.now) (trees_of members.now)) }
 {
     match head_of(members) {
         Head::Missing => None,
@@ -246,10 +265,10 @@ pub fn dated_fault(scope: &Scope, scale: u32, members: &[Form]) -> Option<Fault>
             parts,
             rest,
             ..
-        } => earlier(misfit_list(at, parts), dated_literal_fault(scope, rest)),
+        } => earlier(misfit_list(at, parts), dated_literal_fault(context, rest)),
         Head::Word(word, rest) => earlier(
-            time_fault(scale, word),
-            dated_literal_fault(scope, rest),
+            time_fault(context, word),
+            dated_literal_fault(context, rest),
         ),
     }
 }

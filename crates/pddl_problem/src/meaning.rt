@@ -177,7 +177,9 @@ fn with_given(
     members: &[Form],
 ) -> Result<List<Given>, NoMemory>
     requires { IsScale scale }
-    ensures { IfOk result (λ more. more ≡ values ++ given_of symbols.now (trees_of members.now) (first_number scale (behind_first (trees_of members.now)))) }
+    ensures { IfOk result (λ more. more ≡ values
+        ++ given_of symbols.now (trees_of members.now)
+        (first_number scale (behind_first (trees_of members.now)))) }
 {
     match first_number(scale, behind_first(members)) {
         None => Ok(values),
@@ -227,7 +229,9 @@ fn with_dated(
     members: &[Form],
 ) -> Result<List<Dated>, NoMemory>
     requires { IsScale scale }
-    ensures { IfOk result (λ more. more ≡ timed ++ dated_of symbols.now (trees_of members.now) (first_number scale (trees_of members.now))) }
+    ensures { IfOk result (λ more. more ≡ timed
+        ++ dated_of symbols.now (trees_of members.now)
+        (first_number scale (trees_of members.now))) }
 {
     match first_number(scale, members) {
         None => Ok(timed),
@@ -287,7 +291,8 @@ fn goal_of(
     with_condition(alloc, List::new(alloc), symbols, &variables, scale, parts)
 }
 
-/// A problem over these symbols, by the members of its `:objects`, of its `:init`, and of its goal's list.
+/// A problem over these symbols, by the members of its `:objects`, of its `:init`, and of its
+/// goal's list.
 fn task_from(
     alloc: Global,
     domain: &Domain,
@@ -298,7 +303,9 @@ fn task_from(
     wanted: &[Form],
 ) -> Result<Task, NoMemory>
     requires { IsScale scale }
-    ensures { IfOk result (λ task. task ≡ task_from domain.now symbols.now scale (trees_of listed.now) (trees_of init.now) (trees_of wanted.now)) }
+    ensures { IfOk result (λ task. task
+        ≡ task_from domain.now symbols.now scale (trees_of listed.now) (trees_of init.now)
+        (trees_of wanted.now)) }
 {
     let objects = objects_of(alloc, domain, listed)?;
     let facts = facts_of(alloc, symbols, init)?;
@@ -326,7 +333,8 @@ fn task_in(alloc: Global, domain: &Domain, scale: u32, sections: &[Form]) -> Res
     task_from(alloc, domain, &symbols, scale, listed, init, wanted)
 }
 
-/// The problem that a file without a fault says, over its domain; numbers and times are in units of `scale`.
+/// The problem that a file without a fault says, over its domain; numbers and times are in units of
+/// `scale`.
 pub fn task_of(alloc: Global, domain: &Domain, scale: u32, forms: &[Form]) -> Result<Task, NoMemory>
     requires { IsScale scale }
     ensures { IfOk result (λ task. task ≡ task_of domain.now scale (trees_of forms.now)) }

@@ -24,7 +24,9 @@ fn enter_object(
     word: &Word,
     sort: Option<u32>,
 ) -> Result<Option<Fault>, NoMemory>
-    ensures fault { IfOk result (λ fault. fault ≡ first (again_object (value_of constants.now word.now.text) sort seen.old word.now.at word.now.text)) }
+    ensures fault { IfOk result (λ fault. fault
+        ≡ first (again_object (value_of constants.now word.now.text) sort seen.old word.now.at
+        word.now.text)) }
     ensures seen { OnOk result (seen.new ≡ with_name seen.old word.now.text) }
 {
     let text = word.text.as_slice();
@@ -56,7 +58,8 @@ fn again_fault(
     constants: &Table,
     members: &[Form],
 ) -> Result<Option<Fault>, NoMemory>
-    ensures { IfOk result (λ fault. fault ≡ first (again_objects types.now constants.now [] Start (trees_of members.now))) }
+    ensures { IfOk result (λ fault. fault
+        ≡ first (again_objects types.now constants.now [] Start (trees_of members.now))) }
 {
     let mut best = None;
     let mut seen = Names::new(alloc);
@@ -95,7 +98,8 @@ pub fn objects_fault(
     close: u32,
     members: &[Form],
 ) -> Result<Option<Fault>, NoMemory>
-    ensures { IfOk result (λ fault. fault ≡ first (objects_faults types.now constants.now close (trees_of members.now))) }
+    ensures { IfOk result (λ fault. fault
+        ≡ first (objects_faults types.now constants.now close (trees_of members.now))) }
 {
     let typed = typed_fault(OBJECTS, types, close, members);
     let again = again_fault(alloc, types, constants, members)?;

@@ -8,7 +8,7 @@ use crate::objects::objects_fault;
 use pddl_domain::Domain;
 use pddl_parts::{
     Fault, Kind, Names, earlier, enter_item, fault, misfit_list, misfit_word, named_fault,
-    one_name_fault, others_fault, requirements_fault,
+    one_name_fault, others_fault, requirements_fault, unfit_section,
 };
 use pddl_tokens::{Form, Forms, Head, Word, head_of};
 use std::alloc::Global;
@@ -50,7 +50,8 @@ fn members_fault(
     close: u32,
     members: &[Form],
 ) -> Result<Option<Fault>, NoMemory>
-    ensures { IfOk result (λ fault. fault ≡ first (members_faults domain.now text.now close (trees_of members.now))) }
+    ensures { IfOk result (λ fault. fault
+        ≡ first (members_faults domain.now text.now close (trees_of members.now))) }
 {
     if text == b":domain".as_slice() {
         let other = other_fault(domain.name.as_str().as_bytes(), members);
@@ -74,7 +75,9 @@ fn once_fault(
     head: &Word,
     members: &[Form],
 ) -> Result<Option<Fault>, NoMemory>
-    ensures { IfOk result (λ fault. fault ≡ first (once_faults domain.now seen.now close head.now.at head.now.text (trees_of members.now))) }
+    ensures { IfOk result (λ fault. fault
+        ≡ first (once_faults domain.now seen.now close head.now.at head.now.text
+        (trees_of members.now))) }
 {
     if seen.has(head.text.as_slice()) {
         Ok(fault(Kind::Twice, head.at))
@@ -91,16 +94,17 @@ fn section_fault(
     close: u32,
     parts: &[Form],
 ) -> Result<Option<Fault>, NoMemory>
-    ensures { IfOk result (λ fault. fault ≡ first (section_faults domain.now seen.now at close (trees_of parts.now))) }
+    ensures { IfOk result (λ fault. fault
+        ≡ first (section_faults domain.now seen.now at close (trees_of parts.now))) }
 {
     match head_of(parts) {
         Head::Missing => Ok(misfit_list(at, parts)),
-        Head::List { at, parts, .. } => Ok(misfit_list(at, parts)),
+        Head::List { at, .. } => Ok(fault(Kind::Shape, at)),
         Head::Word(head, members) => {
             if is_section(head.text.as_slice()) {
                 once_fault(alloc, domain, seen, close, head, members)
             } else {
-                Ok(misfit_word(head))
+                Ok(unfit_section(head, members))
             }
         }
     }
@@ -128,7 +132,8 @@ fn missing_fault(seen: &Names, close: u32) -> Option<Fault>
     }
 }
 
-/// The first fault of the sections, in the first pass. `close` is the closing parenthesis of the whole form.
+/// The first fault of the sections, in the first pass. `close` is the closing parenthesis of the
+/// whole form.
 #[tactic(auto, using(pddl_parts::proofs::Firsts::first_onto))]
 fn sections_fault(
     alloc: Global,
@@ -136,7 +141,8 @@ fn sections_fault(
     close: u32,
     sections: &[Form],
 ) -> Result<Option<Fault>, NoMemory>
-    ensures { IfOk result (λ fault. fault ≡ first (sections_faults domain.now close [] (trees_of sections.now))) }
+    ensures { IfOk result (λ fault. fault
+        ≡ first (sections_faults domain.now close [] (trees_of sections.now))) }
 {
     let mut best = None;
     let mut seen = Names::new(alloc);
@@ -171,7 +177,8 @@ fn defined_fault(
     close: u32,
     forms: &[Form],
 ) -> Result<Option<Fault>, NoMemory>
-    ensures { IfOk result (λ fault. fault ≡ first (defined_faults domain.now close (trees_of forms.now))) }
+    ensures { IfOk result (λ fault. fault
+        ≡ first (defined_faults domain.now close (trees_of forms.now))) }
 {
     match head_of(forms) {
         Head::Missing => Ok(fault(Kind::Shape, close)),
@@ -199,7 +206,8 @@ fn form_fault(
     close: u32,
     parts: &[Form],
 ) -> Result<Option<Fault>, NoMemory>
-    ensures { IfOk result (λ fault. fault ≡ first (form_faults domain.now at close (trees_of parts.now))) }
+    ensures { IfOk result (λ fault. fault
+        ≡ first (form_faults domain.now at close (trees_of parts.now))) }
 {
     match head_of(parts) {
         Head::Missing | Head::List { .. } => Ok(misfit_list(at, parts)),
@@ -220,7 +228,8 @@ pub fn declared_fault(
     domain: &Domain,
     forms: &Forms,
 ) -> Result<Option<Fault>, NoMemory>
-    ensures { IfOk result (λ fault. fault ≡ first (declared_faults domain.now forms.now.bytes (trees_of forms.now.forms))) }
+    ensures { IfOk result (λ fault. fault
+        ≡ first (declared_faults domain.now forms.now.bytes (trees_of forms.now.forms))) }
 {
     match head_of(forms.forms.as_slice()) {
         Head::Missing => Ok(fault(Kind::Shape, forms.bytes)),

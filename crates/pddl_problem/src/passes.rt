@@ -1,7 +1,8 @@
-ghost use Rattle.std.specs.Prelude.{◌≡◌, IfOk};
+ghost use Rattle.std.specs.Prelude.{◌≡◌, IfOk, []};
 ghost use Rattle.pddl_tokens.specs.Numbers.{IsScale};
 ghost use Rattle.pddl_tokens.specs.Trees.{trees_of};
 ghost use Rattle.pddl_parts.specs.First.{first};
+ghost use Rattle.pddl_parts.specs.Settings.{setting_of, outside};
 ghost use Rattle.pddl_problem.specs.Passes.{init_faults, goal_faults, state_faults, section_faults, sections_faults, judged_faults, sections_of, problem_fault};
 
 use crate::again::{clashes_fault, values_fault};
@@ -12,8 +13,8 @@ use crate::outer::declared_fault;
 use pddl_domain::Domain;
 use pddl_meaning::behind_first;
 use pddl_parts::{
-    Fault, Kind, Names, Scope, condition_fault, earlier, fault, members_of, misfit_word,
-    surplus_fault,
+    Context, Fault, Kind, Names, Place, Scope, condition_fault, earlier, fault, members_of,
+    misfit_word, surplus_fault,
 };
 use pddl_tokens::{Form, Forms, Head, head_of};
 use std::alloc::Global;
@@ -23,30 +24,24 @@ use tp_spec::NoMemory;
 #[tactic(auto, using(pddl_parts::proofs::Firsts::first_append))]
 fn init_fault(
     alloc: Global,
-    scope: &Scope,
-    scale: u32,
+    context: &Context<'_>,
     members: &[Form],
 ) -> Result<Option<Fault>, NoMemory>
-    requires { IsScale scale }
-    ensures { IfOk result (λ fault. fault ≡ first (init_faults scope.now scale (trees_of members.now))) }
+    requires { IsScale context.now.scale }
+    ensures { IfOk result (λ fault. fault
+        ≡ first (init_faults (setting_of context.now) (trees_of members.now))) }
 {
-    let values = values_fault(alloc, scale, members)?;
-    let clashes = clashes_fault(alloc, scale, members)?;
-    let elements = elements_fault(scope, scale, members);
+    let values = values_fault(alloc, context.scale, members)?;
+    let clashes = clashes_fault(alloc, context.scale, members)?;
+    let elements = elements_fault(context, members);
     Ok(earlier(elements, earlier(values, clashes)))
 }
 
 /// The first fault of the members of `:goal`, up to its closing parenthesis.
 #[tactic(auto, using(pddl_parts::proofs::Firsts::first_append))]
-fn goal_fault(
-    alloc: Global,
-    scope: &Scope,
-    scale: u32,
-    close: u32,
-    members: &[Form],
-) -> Option<Fault>
-    requires { IsScale scale }
-    ensures { result ≡ first (goal_faults scope.now scale close (trees_of members.now)) }
+fn goal_fault(context: &Context<'_>, close: u32, members: &[Form]) -> Option<Fault>
+    requires { IsScale context.now.scale }
+    ensures { result ≡ first (goal_faults (setting_of context.now) close (trees_of members.now)) }
 {
     match head_of(members) {
         Head::Missing => fault(Kind::Shape, close),
@@ -57,8 +52,7 @@ fn goal_fault(
             parts,
             rest,
         } => {
-            let variables = Names::new(alloc);
-            let condition = condition_fault(scope, &variables, scale, at, end, parts);
+            let condition = condition_fault(context, at, end, parts);
             earlier(condition, surplus_fault(rest))
         }
     }
@@ -67,19 +61,19 @@ fn goal_fault(
 /// The first fault of the members of a section with a head, in the second pass.
 fn state_fault(
     alloc: Global,
-    scope: &Scope,
-    scale: u32,
+    context: &Context<'_>,
     close: u32,
     text: &[u8],
     members: &[Form],
 ) -> Result<Option<Fault>, NoMemory>
-    requires { IsScale scale }
-    ensures { IfOk result (λ fault. fault ≡ first (state_faults scope.now scale close text.now (trees_of members.now))) }
+    requires { IsScale context.now.scale }
+    ensures { IfOk result (λ fault. fault
+        ≡ first (state_faults (setting_of context.now) close text.now (trees_of members.now))) }
 {
     if text == b":init".as_slice() {
-        init_fault(alloc, scope, scale, members)
+        init_fault(alloc, context, members)
     } else if text == b":goal".as_slice() {
-        Ok(goal_fault(alloc, scope, scale, close, members))
+        Ok(goal_fault(context, close, members))
     } else {
         Ok(None)
     }
@@ -87,18 +81,18 @@ fn state_fault(
 
 fn section_fault(
     alloc: Global,
-    scope: &Scope,
-    scale: u32,
+    context: &Context<'_>,
     close: u32,
     parts: &[Form],
 ) -> Result<Option<Fault>, NoMemory>
-    requires { IsScale scale }
-    ensures { IfOk result (λ fault. fault ≡ first (section_faults scope.now scale close (trees_of parts.now))) }
+    requires { IsScale context.now.scale }
+    ensures { IfOk result (λ fault. fault
+        ≡ first (section_faults (setting_of context.now) close (trees_of parts.now))) }
 {
     match head_of(parts) {
         Head::Missing | Head::List { .. } => Ok(None),
         Head::Word(head, members) => {
-            state_fault(alloc, scope, scale, close, head.text.as_slice(), members)
+            state_fault(alloc, context, close, head.text.as_slice(), members)
         }
     }
 }
@@ -107,12 +101,12 @@ fn section_fault(
 #[tactic(auto, using(pddl_parts::proofs::Firsts::first_onto))]
 fn sections_fault(
     alloc: Global,
-    scope: &Scope,
-    scale: u32,
+    context: &Context<'_>,
     sections: &[Form],
 ) -> Result<Option<Fault>, NoMemory>
-    requires { IsScale scale }
-    ensures { IfOk result (λ fault. fault ≡ first (sections_faults scope.now scale (trees_of sections.now))) }
+    requires { IsScale context.now.scale }
+    ensures { IfOk result (λ fault. fault
+        ≡ first (sections_faults (setting_of context.now) (trees_of sections.now))) }
 {
     let mut best = None;
     let mut rest = sections;
@@ -126,12 +120,33 @@ fn sections_fault(
                 rest: more,
                 ..
             } => {
-                let section = section_fault(alloc, scope, scale, close, parts)?;
+                let section = section_fault(alloc, context, close, parts)?;
                 best = earlier(best, section);
                 rest = more;
             }
         }
     }
+}
+
+/// The first fault of `:init` and `:goal`, by what they may name.
+fn judged_in(
+    alloc: Global,
+    scope: &Scope,
+    scale: u32,
+    sections: &[Form],
+) -> Result<Option<Fault>, NoMemory>
+    requires { IsScale scale }
+    ensures { IfOk result (λ fault. fault
+        ≡ first (sections_faults (outside scope.now [] scale) (trees_of sections.now))) }
+{
+    let variables = Names::new(alloc);
+    let context = Context {
+        scope,
+        variables: &variables,
+        scale,
+        place: Place::Elsewhere,
+    };
+    sections_fault(alloc, &context, sections)
 }
 
 /// The first fault of `:init` and `:goal`.
@@ -142,10 +157,11 @@ fn judged_fault(
     sections: &[Form],
 ) -> Result<Option<Fault>, NoMemory>
     requires { IsScale scale }
-    ensures { IfOk result (λ fault. fault ≡ first (judged_faults domain.now scale (trees_of sections.now))) }
+    ensures { IfOk result (λ fault. fault
+        ≡ first (judged_faults domain.now scale (trees_of sections.now))) }
 {
     let scope = scope_of(alloc, domain, members_of(b":objects", sections))?;
-    sections_fault(alloc, &scope, scale, sections)
+    judged_in(alloc, &scope, scale, sections)
 }
 
 /// The sections of a problem.
@@ -155,7 +171,8 @@ pub fn sections_of(forms: &[Form]) -> &[Form]
     behind_first(behind_first(first_list(forms)))
 }
 
-/// The first fault of a problem's file: that of its declarations, where they have one, else that of `:init` and `:goal`.
+/// The first fault of a problem's file: that of its declarations, where they have one, else that of
+/// `:init` and `:goal`.
 pub fn problem_fault(
     alloc: Global,
     domain: &Domain,
@@ -163,7 +180,8 @@ pub fn problem_fault(
     forms: &Forms,
 ) -> Result<Option<Fault>, NoMemory>
     requires { IsScale scale }
-    ensures { IfOk result (λ fault. fault ≡ problem_fault domain.now scale forms.now.bytes (trees_of forms.now.forms)) }
+    ensures { IfOk result (λ fault. fault
+        ≡ problem_fault domain.now scale forms.now.bytes (trees_of forms.now.forms)) }
 {
     let declared = declared_fault(alloc, domain, forms)?;
     match declared {

@@ -13,9 +13,9 @@ use pddl_parts::PddlFault;
 use pddl_tokens::Forms;
 use std::alloc::Global;
 
-/// The problem of this domain that a file of words and lists says, where it has no fault; numbers and times are in units
-/// of `scale`, 1, 10, 100 or 1000. Else the first fault: of the declarations, where they have one, or else of `:init` and
-/// `:goal`.
+/// The problem of this domain that a file of words and lists says, where it has no fault; numbers
+/// and times are in units of `scale`, 1, 10, 100 or 1000. Else the first fault: of the
+/// declarations, where they have one, or else of `:init` and `:goal`.
 pub fn read_problem(
     alloc: Global,
     forms: &Forms,
@@ -24,7 +24,8 @@ pub fn read_problem(
 ) -> Result<Task, PddlFault>
     requires { IsScale scale }
     ensures task { IfOk result (λ t. t ≡ task_of domain.now scale (trees_of forms.now.forms)) }
-    ensures fault { Gives result (problem_fault domain.now scale forms.now.bytes (trees_of forms.now.forms)) }
+    ensures fault { Gives result (problem_fault domain.now scale forms.now.bytes
+        (trees_of forms.now.forms)) }
 {
     match problem_fault(alloc, domain, scale, forms) {
         Err(_) => Err(PddlFault::NoMemory),

@@ -18,8 +18,9 @@ pub struct Dated {
     pub atom: Atom,
 }
 
-/// What a PDDL problem says. Objects are named by their numbers from 0, and the domain's constants come first; predicates
-/// and functions by their numbers in the domain. Lists are in the order of the text, and hold what is said twice twice.
+/// What a PDDL problem says. Objects are named by their numbers from 0, and the domain's constants
+/// come first; predicates and functions by their numbers in the domain. Lists are in the order of
+/// the text, and hold what is said twice twice.
 #[derive(Drop)]
 pub struct Task {
     pub objects: List<Object>,

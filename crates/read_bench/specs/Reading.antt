@@ -37,12 +37,16 @@ counts_of domain task =
 -- so much is said by a domain's text and a problem's
 abbrev pub IsSaid : Counts → List ℕ → List ℕ → Type 0
 IsSaid counts domain problem =
-    Says domain (λ ts. Says problem (λ us. counts ≡ counts_of (domain_of 1 ts) (task_of (domain_of 1 ts) 1 us)))
+    Says domain (λ ts. Says problem
+    (λ us. counts ≡ counts_of (domain_of 1 ts) (task_of (domain_of 1 ts) 1 us)))
 
--- why a domain's text and a problem's say nothing: the first fault of the first text that has one, or no memory
+-- why a domain's text and a problem's say nothing: the first fault of the first text that has one,
+-- or no memory
 abbrev pub Explains : ReadFault → List ℕ → List ℕ → Type 0
 Explains (DomainText f) domain problem = GivesText {A = Forms} (Err f) (fault_of domain)
-Explains (Domain f) domain problem = Says domain (λ ts. Gives {A = DomainValue} (Err f) (domain_fault 1 (length domain) ts))
+Explains (Domain f) domain problem =
+    Says domain (λ ts. Gives {A = DomainValue} (Err f) (domain_fault 1 (length domain) ts))
 Explains (ProblemText f) domain problem = GivesText {A = Forms} (Err f) (fault_of problem)
 Explains (Problem f) domain problem =
-    Says domain (λ ts. Says problem (λ us. Gives {A = Task} (Err f) (problem_fault (domain_of 1 ts) 1 (length problem) us)))
+    Says domain (λ ts. Says problem
+    (λ us. Gives {A = Task} (Err f) (problem_fault (domain_of 1 ts) 1 (length problem) us)))

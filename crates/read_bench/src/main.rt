@@ -1,7 +1,7 @@
-//! Measures the readers of PDDL files: reads a domain and a problem of it, as often as it is told, and prints one line:
-//! how much they say, or the first fault with its byte.
-//! `read_bench DOMAIN PROBLEM [ROUNDS]`, where the two are paths of files; one round where ROUNDS is left out. The script
-//! `bench/read` makes the files, runs it and takes the start off.
+//! Measures the readers of PDDL files: reads a domain and a problem of it, as often as it is told,
+//! and prints one line: how much they say, or the first fault with its byte. `read_bench DOMAIN
+//! PROBLEM [ROUNDS]`, where the two are paths of files; one round where ROUNDS is left out. The
+//! script `bench/read` makes the files, runs it and takes the start off.
 #![tactic(auto)]
 
 ghost use Rattle.std.specs.Prelude.{◌≤◌, IfOk, vec_len};

@@ -12,7 +12,8 @@ use std::alloc::Global;
 use std::fmt;
 use thiserror::Error;
 
-/// How many of each kind of thing a domain and a problem of it say. Types count `object`, and objects the constants.
+/// How many of each kind of thing a domain and a problem of it say. Types count `object`, and
+/// objects the constants.
 #[derive(Clone, Copy, Debug, PartialEq, Eq)]
 pub struct Counts {
     pub types: usize,
@@ -72,7 +73,8 @@ fn domain_in(alloc: Global, text: &[u8]) -> Result<Domain, ReadFault>
 fn problem_in(alloc: Global, domain: &Domain, text: &[u8]) -> Result<Task, ReadFault>
     requires { length text.now < 2 ^ 31 }
     ensures task { IfOk result (λ t. Says text.now (λ forms. t ≡ task_of domain.now 1 forms)) }
-    ensures fault { IfErr result (λ f. (source : List ℕ) → Says source (λ forms. domain.now ≡ domain_of 1 forms) → Explains f source text.now) }
+    ensures fault { IfErr result (λ f. (source : List ℕ)
+        → Says source (λ forms. domain.now ≡ domain_of 1 forms) → Explains f source text.now) }
 {
     let forms = match read_forms(alloc, text) {
         Ok(forms) => forms,
@@ -101,8 +103,8 @@ fn counts_of(domain: &Domain, task: &Task) -> Counts
     }
 }
 
-/// Reads a domain and a problem of it, and counts what they say, or answers the first text that has a fault with its
-/// first fault.
+/// Reads a domain and a problem of it, and counts what they say, or answers the first text that has
+/// a fault with its first fault.
 pub fn read_pair(alloc: Global, domain: &[u8], problem: &[u8]) -> Result<Counts, ReadFault>
     requires domain { length domain.now < 2 ^ 31 }
     requires problem { length problem.now < 2 ^ 31 }

@@ -6,8 +6,8 @@ use Rattle.domain_faults.proofs.actions.actions_fault.Given as goal
 
 abbrev pub invariant-sections : goal.invariant-sections
 invariant-sections l =
-    earlier l.best (first (actions_faults l.types l.scope l.scale l.names (trees_of l.rest)))
-    ≡ first (actions_faults l.types l.scope l.scale [] (trees_of l.sections))
+    earlier l.best (first (actions_faults l.scope l.scale l.names (trees_of l.rest)))
+    ≡ first (actions_faults l.scope l.scale [] (trees_of l.sections))
 
 abbrev pub decreases-sections : goal.decreases-sections
 decreases-sections l = sizes (trees_of l.rest)

@@ -6,7 +6,7 @@ use Rattle.domain_faults.specs.Heads.{heads_faults}
 use Rattle.domain_faults.proofs.heads.heads_fault.Given as goal
 
 abbrev pub invariant-members : goal.invariant-members
-invariant-members l = earlier l.best (first (heads_faults l.numbers l.types l.close l.seen l.part (trees_of l.rest))) ≡ first (heads_faults l.numbers l.types l.close [] Start (trees_of l.forms))
+invariant-members l = earlier l.best (first (heads_faults l.kind l.types l.close l.seen l.part (trees_of l.rest))) ≡ first (heads_faults l.kind l.types l.close [] Start (trees_of l.forms))
 
 abbrev pub decreases-members : goal.decreases-members
 decreases-members l = sizes (trees_of l.rest)

@@ -4,7 +4,7 @@ use Rattle.domain_faults.specs.Parts.{part_from, part_of}
 use Rattle.domain_faults.proofs.parts.part_of.Given as goal
 
 abbrev pub invariant-parts : goal.invariant-parts
-invariant-parts l = part_from l.durative l.key l.slot (trees_of l.rest) ≡ part_of l.durative l.key (trees_of l.members)
+invariant-parts l = part_from l.kind l.key l.slot (trees_of l.rest) ≡ part_of l.kind l.key (trees_of l.members)
 
 abbrev pub decreases-parts : goal.decreases-parts
 decreases-parts l = sizes (trees_of l.rest)
