@@ -1,0 +1,89 @@
+ghost use Rattle.std.specs.Prelude.{◌≤◌, IfOk, vec_len};
+
+use crate::running::unfit;
+use std::alloc::Global;
+use std::io;
+
+/// A command line, and what is outside when it is run.
+#[derive(Drop)]
+pub struct Case {
+    /// Whether the call is `run_local`, else `run`.
+    pub local: bool,
+    /// The words of the command line, at most 16.
+    pub words: Vec<String>,
+    ghost few: { vec_len words ≤ 16 },
+    /// The readings of the clock.
+    pub readings: Vec<u64>,
+    /// The numbers of the loads that fail, from 0.
+    pub loads: Vec<u64>,
+    /// The numbers of the puts that fail, from 0, with how many of their bytes still go out.
+    pub puts: Vec<(u64, u64)>,
+}
+
+/// The most words of a line.
+const MOST_WORDS: usize = 16;
+
+/// The words of a text, with spaces between them: at most 16.
+pub fn words_of(alloc: Global, text: &str) -> io::Result<Vec<String>>
+    ensures { IfOk result (λ words. vec_len words ≤ 16) }
+{
+    let mut words = Vec::new(alloc);
+    for word in text.split(' ') {
+        if !word.is_empty() {
+            words.push(String::from_str(alloc, word)?)?;
+        }
+    }
+    if words.len() > MOST_WORDS {
+        return Err(unfit());
+    }
+    Ok(words)
+}
+
+fn number_of(text: &str) -> io::Result<u64> {
+    text.parse::<u64>().map_err(|_| unfit())
+}
+
+/// Numbers with commas between them.
+fn numbers_of(alloc: Global, text: &str) -> io::Result<Vec<u64>> {
+    let mut numbers = Vec::new(alloc);
+    for number in text.split(',') {
+        numbers.push(number_of(number)?)?;
+    }
+    Ok(numbers)
+}
+
+/// Reads what one word says of the outside: `local`, `clock=` and `loads=` with numbers, `put=`
+/// with a number and how many bytes still go out.
+fn set_outside(alloc: Global, case: &mut Case, word: &str) -> io::Result<()> {
+    if word == "local" {
+        case.local = true;
+    } else if let Some(numbers) = word.strip_prefix("clock=") {
+        case.readings = numbers_of(alloc, numbers)?;
+    } else if let Some(numbers) = word.strip_prefix("loads=") {
+        case.loads = numbers_of(alloc, numbers)?;
+    } else if let Some(pair) = word.strip_prefix("put=") {
+        let (number, bytes) = pair.split_once(':').ok_or(unfit())?;
+        case.puts.push((number_of(number)?, number_of(bytes)?))?;
+    } else {
+        return Err(unfit());
+    }
+    Ok(())
+}
+
+/// Reads the line of a case: words of the outside, a `|`, and the command line.
+pub fn case_of(alloc: Global, line: &str) -> io::Result<Case> {
+    let (outside, words) = line.split_once('|').ok_or(unfit())?;
+    let mut case = Case {
+        local: false,
+        words: words_of(alloc, words)?,
+        readings: Vec::new(alloc),
+        loads: Vec::new(alloc),
+        puts: Vec::new(alloc),
+    };
+    for word in outside.split(' ') {
+        if !word.is_empty() {
+            set_outside(alloc, &mut case, word)?;
+        }
+    }
+    Ok(case)
+}
