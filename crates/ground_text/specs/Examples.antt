@@ -1,5 +1,5 @@
 -- A small problem with a part of each kind, for its text to be computed.
-use Rattle.std.specs.Prelude.{pos, negsuc, true, false, [], ◌∷◌, Some, None, codes}
+use Rattle.std.specs.Prelude.{ℕ, pos, negsuc, true, false, List, [], ◌∷◌, ◌++◌, Some, None, codes}
 use Rattle.tp_spec.specs.WellFormed.{Ground}
 use Rattle.tp_spec.specs.declared.expr.Expr.{Expr, roll-Expr}
 use Rattle.tp_spec.specs.declared.expr.Expr.TheOpen.{Expr-F}
@@ -56,3 +56,11 @@ small = record {
   values = Some (pos 7) ∷ None ∷ [];
   goal = Lit 1 true ∷ [];
 }
+
+-- its text, by the rules of the format
+abbrev pub small_text : List ℕ
+small_text =
+    codes "ground 1\nscale 1\nfacts 3\nat a\nat b\nshut\nfluents 2\nfuel\nload\n"
+    ++ codes "actions 2\nact go a b\nlength 5 8\ncs +0 (>= (- n0 3) -2)\nco\nce -2\n"
+    ++ codes "es -0 (dec 0 3)\nee +1\nact wave\ninstant\ncs\nes\n"
+    ++ codes "timed 2\nat 0 +2\nat 9 -1 +2\ninit 0 2\nvalues 7 -\ngoal +1\nend\n"

@@ -251,7 +251,8 @@ fn put_action(out: &mut Vec<u8>, action: &Action) -> Result<(), NoMemory>
 
 /// One literal behind a space.
 fn put_literal(out: &mut Vec<u8>, literal: &Effect) -> Result<(), NoMemory>
-    ensures { OnOk result (out.new.items ≡ out.old.items ++ (codes " " ++ effect_text literal.now)) }
+    ensures { OnOk result
+        (out.new.items ≡ out.old.items ++ (codes " " ++ effect_text literal.now)) }
 {
     push_bytes(out, b" ")?;
     put_effect(out, literal)

@@ -36,8 +36,8 @@ fn is_written(number: u64, text: &[u8]) -> bool
 /// what stands behind it, which begins with no digit; none where the text does not begin so.
 pub fn cut_number(text: &[u8], most: u64) -> Option<(u64, &[u8])>
     ensures number { IfSome result (λ x. BeginsWithNumber most text.now x.0 x.1.now) }
-    ensures none { IfNone result ((number : ℕ) (rest : List ℕ) → BeginsWithNumber most text.now number rest
-        → ⊥) }
+    ensures none { IfNone result
+        ((number : ℕ) (rest : List ℕ) → BeginsWithNumber most text.now number rest → ⊥) }
 {
     let (number, rest) = leading_digits(text);
     let (digits, _) = text.split_at(text.len() - rest.len());

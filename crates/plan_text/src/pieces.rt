@@ -91,7 +91,8 @@ fn push(out: &mut Vec<u8>, b: u8) -> Result<(), NoMemory>
 
 /// Puts a byte of a word behind a text, and a space before it where white space stood there.
 fn push_spaced(out: &mut Vec<u8>, blank: bool, b: u8) -> Result<(), NoMemory>
-    ensures { OnOk result (out.new.items ≡ out.old.items ++ (if blank then 32 ∷ b ∷ [] else b ∷ [])) }
+    ensures { OnOk result
+        (out.new.items ≡ out.old.items ++ (if blank then 32 ∷ b ∷ [] else b ∷ [])) }
 {
     if blank {
         push(out, b' ')?;
