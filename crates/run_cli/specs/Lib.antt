@@ -7,7 +7,6 @@ pub mod Plainness
 pub mod Printing
 pub mod Runs
 pub mod Solving
-pub mod Sprouting
 pub mod Statuses
 pub mod Stopping
 pub mod Validating

@@ -7,10 +7,11 @@ ghost use Rattle.tp_spec.specs.Words.{Progress, groups, past_group};
 ghost use Rattle.open_tree.specs.JobViews.{view_of};
 ghost use Rattle.open_tree.specs.PlainTables.{AreTables};
 ghost use Rattle.open_tree.specs.Walks.{StandsFor};
-ghost use Rattle.run_cli.specs.Sprouting.{start_mark, starts_after};
+ghost use Rattle.tp_laws.specs.Starts.{start_mark, starts_after};
 
 use open_tree::{Job, PlainActions, PlainWalk};
 use std::alloc::Global;
+use tp_laws::live_starts;
 use tp_spec::{Item, List, Mark, NoMemory, Problem};
 
 /// The marks that make the word of a job of a plain problem a live word, in order: those that join
@@ -28,6 +29,7 @@ pub fn live_marks(
         → IfOk result (λ marks. AreLiveMarks problem.now job.now.limits (view_of job.now)
         job.now.node.word marks) }
 {
+    live_starts();
     let word = job.node().word();
     let limits = job.limits();
     let mut walk = PlainWalk::over(alloc, actions, problem, word)?;

@@ -1,5 +1,5 @@
 use Rattle.std.proofs.Common.{◌≡◌, ◌++◌, map, take}
-use Rattle.run_cli.specs.Sprouting.{start_mark}
+use Rattle.tp_laws.specs.Starts.{start_mark}
 use Rattle.run_cli.proofs.sprouting.push_starts.Given as goal
 
 abbrev pub invariant-loop-action : goal.invariant-loop-action

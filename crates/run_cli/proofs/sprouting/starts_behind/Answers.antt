@@ -1,5 +1,5 @@
 use Rattle.std.proofs.Common.{◌≡◌, ◌∙◌, false}
-use Rattle.run_cli.specs.Sprouting.{starts_by}
+use Rattle.tp_laws.specs.Starts.{starts_by}
 use Rattle.run_cli.proofs.LiveMarks.{first_kind, both_kinds, one_kind}
 use Rattle.run_cli.proofs.sprouting.starts_behind.Goals as goal
 use Rattle.run_cli.proofs.sprouting.starts_behind.Goals.{then-opens+in_ok-opening+in_ok-push_starts-2, else-opens}
