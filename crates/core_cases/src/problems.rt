@@ -17,10 +17,26 @@ pub fn unfit() -> io::Error {
     io::Error::from(io::ErrorKind::InvalidData)
 }
 
+/// The bytes of a file.
+fn bytes_of(alloc: Global, files: &mut impl Files, name: &str) -> Option<Vec<u8>> {
+    files.load(alloc, name, MOST).ok()
+}
+
+/// The problem of a text, none where it is too long or has none.
+fn problem_of(alloc: Global, text: &[u8]) -> Option<Problem> {
+    if text.len() > 4_096 {
+        return None;
+    }
+    read_problem_text(alloc, text).ok()
+}
+
 /// The problem of a file.
 pub fn read(alloc: Global, files: &mut impl Files, name: &str) -> io::Result<Problem> {
-    let Ok(text) = files.load(alloc, name, MOST) else {
+    let Some(text) = bytes_of(alloc, files, name) else {
         return Err(io::Error::from(io::ErrorKind::NotFound));
     };
-    read_problem_text(alloc, &text).map_err(|_| unfit())
+    match problem_of(alloc, &text) {
+        Some(problem) => Ok(problem),
+        None => Err(unfit()),
+    }
 }

@@ -1,45 +1,51 @@
-use crate::problems::{no_memory, unfit};
+use crate::problems::unfit;
 use open_tree::{Taken, Tree};
+use problem_rules::is_plain;
 use std::alloc::Global;
 use std::io;
-use tp_spec::{Cause, Cond, Limits, List, Name, NoMemory, Problem};
+use tp_spec::{Cause, Limits, Problem};
 use tp_world::{Clock, ListClock};
 
-/// A problem of one fact and no action, whose goal is that fact.
-fn unreachable_fact(alloc: Global) -> Result<Problem, NoMemory> {
-    let mut facts = List::new(alloc);
-    facts.push(Name::of(alloc, "lit")?)?;
-    let mut goal = List::new(alloc);
-    goal.push(Cond::Lit {
-        fact: 0,
-        positive: true,
-    })?;
-    Ok(Problem {
-        scale: 1,
-        facts,
-        fluents: List::new(alloc),
-        actions: List::new(alloc),
-        timed: List::new(alloc),
-        init: List::new(alloc),
-        values: List::new(alloc),
-        goal,
-    })
+/// What three takes gave, and how many events the history then has.
+#[derive(Drop)]
+struct Taking {
+    first: &'static str,
+    second: &'static str,
+    third: &'static str,
+    events: usize,
 }
 
-/// What a take gives, in a word.
-fn word_of(taken: &Taken<'_>) -> &'static str {
-    match taken {
-        Taken::Job(_) => "a job",
-        Taken::Nothing => "nothing",
-        Taken::Over => "over",
+/// What a take of the first actor gives, in a word.
+fn taken(tree: &mut Tree<'_, ListClock>) -> &'static str {
+    match tree.take(1) {
+        Ok(Taken::Job(_)) => "a job",
+        Ok(Taken::Nothing) => "nothing",
+        Ok(Taken::Over) => "over",
+        Err(_) => "no memory",
     }
 }
 
 /// Two takes of one actor, a halt, and a third take.
-pub fn two_takes(alloc: Global) -> io::Result<String> {
-    let Ok(problem) = unreachable_fact(alloc) else {
-        return Err(no_memory());
-    };
+fn takes_of(mut tree: Tree<'_, ListClock>) -> Taking {
+    let first = taken(&mut tree);
+    let second = taken(&mut tree);
+    tree.halt(Cause::Memory);
+    let third = taken(&mut tree);
+    let (history, _) = tree.into_parts();
+    Taking {
+        first,
+        second,
+        third,
+        events: history.len(),
+    }
+}
+
+/// The takes from the tree of a plain problem. It gives none where the problem is not plain, or
+/// memory is refused.
+fn takes(alloc: Global, problem: &Problem) -> Option<Taking> {
+    if !is_plain(problem) {
+        return None;
+    }
     let limits = Limits {
         actions: 64,
         horizon: 9,
@@ -48,26 +54,20 @@ pub fn two_takes(alloc: Global) -> io::Result<String> {
     };
     let mut clock = ListClock::new(Vec::new(alloc));
     clock.begin(problem.scale);
-    let Ok(mut tree) = Tree::new(alloc, &problem, limits, clock) else {
-        return Err(no_memory());
+    match Tree::new(alloc, problem, limits, clock) {
+        Ok(tree) => Some(takes_of(tree)),
+        Err(_) => None,
+    }
+}
+
+/// Two takes of one actor, a halt, and a third take.
+pub fn two_takes(alloc: Global, problem: &Problem) -> io::Result<String> {
+    let Some(takes) = takes(alloc, problem) else {
+        return Err(unfit());
     };
-    let Ok(first) = tree.take(1) else {
-        return Err(no_memory());
-    };
-    let Ok(second) = tree.take(1) else {
-        return Err(no_memory());
-    };
-    tree.halt(Cause::Memory);
-    let Ok(third) = tree.take(1) else {
-        return Err(no_memory());
-    };
-    let (history, _) = tree.into_parts();
     let text = format!(in alloc;
         "takes: {}, {}, {}, events {}",
-        word_of(&first),
-        word_of(&second),
-        word_of(&third),
-        history.len()
+        takes.first, takes.second, takes.third, takes.events
     )?;
     Ok(text)
 }

@@ -1,5 +1,3 @@
-ghost use Rattle.std.specs.Prelude.{◌≤◌, IfOk, vec_len};
-
 use crate::running::unfit;
 use std::alloc::Global;
 use std::io;
@@ -11,7 +9,6 @@ pub struct Case {
     pub local: bool,
     /// The words of the command line, at most 16.
     pub words: Vec<String>,
-    ghost few: { vec_len words ≤ 16 },
     /// The readings of the clock.
     pub readings: Vec<u64>,
     /// The numbers of the loads that fail, from 0.
@@ -21,12 +18,10 @@ pub struct Case {
 }
 
 /// The most words of a line.
-const MOST_WORDS: usize = 16;
+pub const MOST_WORDS: usize = 16;
 
 /// The words of a text, with spaces between them: at most 16.
-pub fn words_of(alloc: Global, text: &str) -> io::Result<Vec<String>>
-    ensures { IfOk result (λ words. vec_len words ≤ 16) }
-{
+pub fn words_of(alloc: Global, text: &str) -> io::Result<Vec<String>> {
     let mut words = Vec::new(alloc);
     for word in text.split(' ') {
         if !word.is_empty() {
@@ -52,6 +47,14 @@ fn numbers_of(alloc: Global, text: &str) -> io::Result<Vec<u64>> {
     Ok(numbers)
 }
 
+/// Two numbers with a `:` between them.
+fn pair_of(text: &str) -> io::Result<(u64, u64)> {
+    let Some((first, second)) = text.split_once(':') else {
+        return Err(unfit());
+    };
+    Ok((number_of(first)?, number_of(second)?))
+}
+
 /// Reads what one word says of the outside: `local`, `clock=` and `loads=` with numbers, `put=`
 /// with a number and how many bytes still go out.
 fn set_outside(alloc: Global, case: &mut Case, word: &str) -> io::Result<()> {
@@ -62,8 +65,7 @@ fn set_outside(alloc: Global, case: &mut Case, word: &str) -> io::Result<()> {
     } else if let Some(numbers) = word.strip_prefix("loads=") {
         case.loads = numbers_of(alloc, numbers)?;
     } else if let Some(pair) = word.strip_prefix("put=") {
-        let (number, bytes) = pair.split_once(':').ok_or(unfit())?;
-        case.puts.push((number_of(number)?, number_of(bytes)?))?;
+        case.puts.push(pair_of(pair)?)?;
     } else {
         return Err(unfit());
     }
@@ -72,7 +74,9 @@ fn set_outside(alloc: Global, case: &mut Case, word: &str) -> io::Result<()> {
 
 /// Reads the line of a case: words of the outside, a `|`, and the command line.
 pub fn case_of(alloc: Global, line: &str) -> io::Result<Case> {
-    let (outside, words) = line.split_once('|').ok_or(unfit())?;
+    let Some((outside, words)) = line.split_once('|') else {
+        return Err(unfit());
+    };
     let mut case = Case {
         local: false,
         words: words_of(alloc, words)?,

@@ -23,23 +23,65 @@ fn text_of(alloc: Global, files: &mut impl Files, name: &str) -> io::Result<Stri
     let Ok(bytes) = files.load(alloc, name, MOST) else {
         return Err(io::Error::from(io::ErrorKind::NotFound));
     };
-    String::from_utf8(bytes).map_err(|_| unfit())
+    match String::from_utf8(bytes) {
+        Ok(text) => Ok(text),
+        Err(_) => Err(unfit()),
+    }
+}
+
+/// Runs the case of a line, and prints what it gives.
+fn print_case(
+    rt: &(impl Print + AllocGlobal),
+    files: &mut impl Files,
+    line: &str,
+) -> io::Result<()> {
+    let case = case_of(rt.alloc(), line)?;
+    let shown = run_case(rt.alloc(), files, &case)?;
+    print!(rt; "> {line}\n{shown}")
+}
+
+/// Prints what each line of the cases gives.
+fn print_cases(
+    rt: &(impl Print + AllocGlobal),
+    files: &mut impl Files,
+    cases: &str,
+) -> io::Result<()> {
+    for line in cases.lines() {
+        print_case(rt, files, line)?;
+    }
+    Ok(())
+}
+
+/// Prints what the words of each line order.
+fn print_orders(rt: &(impl Print + AllocGlobal), orders: &str) -> io::Result<()> {
+    for line in orders.lines() {
+        let shown = order_text(rt.alloc(), line)?;
+        println!(rt; "{shown}|{line}")?;
+    }
+    Ok(())
+}
+
+/// What the cases give.
+fn show_cases(rt: &(impl Print + AllocGlobal), files: &mut impl Files) -> io::Result<()> {
+    let cases = text_of(rt.alloc(), files, "cases")?;
+    print_cases(rt, files, cases.as_str())
+}
+
+/// What the lines of words order.
+fn show_orders(rt: &(impl Print + AllocGlobal), files: &mut impl Files) -> io::Result<()> {
+    let orders = text_of(rt.alloc(), files, "orders")?;
+    print_orders(rt, orders.as_str())
+}
+
+/// The texts of faults.
+fn show_faults(rt: &(impl Print + AllocGlobal)) -> io::Result<()> {
+    let texts = texts_of_faults(rt.alloc())?;
+    print!(rt; "{texts}")
 }
 
 fn main(rt: HostRuntime) -> io::Result<()> {
-    let alloc = rt.alloc();
     let mut files = DiskFiles::new(rt);
-    let cases = text_of(alloc, &mut files, "cases")?;
-    for line in cases.as_str().lines() {
-        let case = case_of(alloc, line)?;
-        let shown = run_case(alloc, &mut files, &case)?;
-        print!(rt; "> {line}\n{shown}")?;
-    }
-    let orders = text_of(alloc, &mut files, "orders")?;
-    for line in orders.as_str().lines() {
-        let shown = order_text(alloc, line)?;
-        println!(rt; "{shown}|{line}")?;
-    }
-    let texts = texts_of_faults(alloc)?;
-    print!(rt; "{texts}")
+    show_cases(&rt, &mut files)?;
+    show_orders(&rt, &mut files)?;
+    show_faults(&rt)
 }
