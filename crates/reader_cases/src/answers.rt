@@ -4,9 +4,10 @@ ghost use Rattle.pddl_tokens.specs.Numbers.{IsScale};
 use crate::escapes::{bytes_of, text_of};
 use crate::shown::{shown_domain, shown_forms, shown_task};
 use anyhow::bail;
-use pddl_domain::read_domain;
-use pddl_problem::read_problem;
-use pddl_tokens::{Word, number, read_forms};
+use pddl_domain::{Domain, read_domain};
+use pddl_parts::PddlFault;
+use pddl_problem::{Task, read_problem};
+use pddl_tokens::{Forms, Word, number, read_forms};
 use std::alloc::Global;
 use tp_spec::List;
 
@@ -26,6 +27,15 @@ pub enum Telling {
     Whole,
 }
 
+/// What a text holds, or that it is read.
+fn forms_answer(alloc: Global, kind: &str, forms: &Forms) -> anyhow::Result<String> {
+    if kind == "forms" {
+        shown_forms(alloc, forms)
+    } else {
+        Ok("read".to_string(alloc)?)
+    }
+}
+
 /// The first fault of a text, or what it holds.
 fn token_answer(alloc: Global, line: &str) -> anyhow::Result<String> {
     let (kind, text) = line.split_once(' ').unwrap_or((line, ""));
@@ -35,13 +45,7 @@ fn token_answer(alloc: Global, line: &str) -> anyhow::Result<String> {
     }
     match read_forms(alloc, &bytes) {
         Err(fault) => Ok(format!(in alloc; "{fault:?}")?),
-        Ok(forms) => {
-            if kind == "forms" {
-                shown_forms(alloc, &forms)
-            } else {
-                Ok("read".to_string(alloc)?)
-            }
-        }
+        Ok(forms) => forms_answer(alloc, kind, &forms),
     }
 }
 
@@ -59,6 +63,47 @@ fn number_answer(alloc: Global, scale: u32, text: &str) -> anyhow::Result<String
     }
 }
 
+/// The domain that a text says, or its first fault.
+fn domain_in(alloc: Global, scale: u32, text: &[u8]) -> anyhow::Result<Result<Domain, PddlFault>>
+    requires scale { IsScale scale }
+    requires text { length text.now < 2 ^ 31 }
+{
+    let forms = read_forms(alloc, text)?;
+    Ok(read_domain(alloc, &forms, scale))
+}
+
+/// The problem of a domain that a text says, or its first fault.
+fn problem_in(
+    alloc: Global,
+    domain: &Domain,
+    scale: u32,
+    text: &[u8],
+) -> anyhow::Result<Result<Task, PddlFault>>
+    requires scale { IsScale scale }
+    requires text { length text.now < 2 ^ 31 }
+{
+    let forms = read_forms(alloc, text)?;
+    Ok(read_problem(alloc, &forms, domain, scale))
+}
+
+fn told_fault(alloc: Global, fault: PddlFault) -> anyhow::Result<String> {
+    Ok(format!(in alloc; "{fault:?}")?)
+}
+
+fn told_domain(alloc: Global, telling: Telling, domain: &Domain) -> anyhow::Result<String> {
+    match telling {
+        Telling::Whole => shown_domain(alloc, domain),
+        Telling::Fault => Ok("read".to_string(alloc)?),
+    }
+}
+
+fn told_task(alloc: Global, telling: Telling, task: &Task) -> anyhow::Result<String> {
+    match telling {
+        Telling::Whole => shown_task(alloc, task),
+        Telling::Fault => Ok("read".to_string(alloc)?),
+    }
+}
+
 /// The first fault of a domain, or what it says.
 pub fn domain_answer(
     alloc: Global,
@@ -69,19 +114,30 @@ pub fn domain_answer(
     requires scale { IsScale scale }
     requires text { length text.now < 2 ^ 31 }
 {
-    let forms = read_forms(alloc, text)?;
-    match read_domain(alloc, &forms, scale) {
-        Err(fault) => Ok(format!(in alloc; "{fault:?}")?),
-        Ok(domain) => {
-            match telling {
-                Telling::Whole => shown_domain(alloc, &domain),
-                Telling::Fault => Ok("read".to_string(alloc)?),
-            }
-        }
+    match domain_in(alloc, scale, text)? {
+        Err(fault) => told_fault(alloc, fault),
+        Ok(domain) => told_domain(alloc, telling, &domain),
     }
 }
 
-/// The first fault of a problem, or what it says.
+/// The first fault of a problem of a domain, or what it says.
+fn answer_within(
+    alloc: Global,
+    domain: &Domain,
+    scale: u32,
+    telling: Telling,
+    text: &[u8],
+) -> anyhow::Result<String>
+    requires scale { IsScale scale }
+    requires text { length text.now < 2 ^ 31 }
+{
+    match problem_in(alloc, domain, scale, text)? {
+        Err(fault) => told_fault(alloc, fault),
+        Ok(task) => told_task(alloc, telling, &task),
+    }
+}
+
+/// The first fault of a problem, or what it says. Its domain has no fault.
 fn problem_answer(
     alloc: Global,
     domain: &[u8],
@@ -93,17 +149,9 @@ fn problem_answer(
     requires domain { length domain.now < 2 ^ 31 }
     requires text { length text.now < 2 ^ 31 }
 {
-    let forms = read_forms(alloc, domain)?;
-    let domain = read_domain(alloc, &forms, scale)?;
-    let forms = read_forms(alloc, text)?;
-    match read_problem(alloc, &forms, &domain, scale) {
-        Err(fault) => Ok(format!(in alloc; "{fault:?}")?),
-        Ok(task) => {
-            match telling {
-                Telling::Whole => shown_task(alloc, &task),
-                Telling::Fault => Ok("read".to_string(alloc)?),
-            }
-        }
+    match domain_in(alloc, scale, domain)? {
+        Err(_) => bail!("the domain of a problem has a fault"),
+        Ok(domain) => answer_within(alloc, &domain, scale, telling, text),
     }
 }
 

@@ -68,23 +68,47 @@ fn table_in(rt: &(impl Files + AllocGlobal), folder: &str, name: &str) -> anyhow
     Ok(fs::read_to_string(rt, &path)?)
 }
 
+/// Prints the answers of a table that is read from a folder.
+fn tell_table(
+    rt: &(impl Files + Print + AllocGlobal),
+    folder: &str,
+    table: Table<'_>,
+    name: &str,
+) -> anyhow::Result<()> {
+    let text = table_in(rt, folder, name)?;
+    print_table(rt, table, name, &text)
+}
+
+/// Prints the answers of a table of places that is read from a folder.
+fn tell_left_out(
+    rt: &(impl Files + Print + AllocGlobal),
+    folder: &str,
+    name: &str,
+) -> anyhow::Result<()> {
+    let text = table_in(rt, folder, name)?;
+    print_left_out(rt, name, &text)
+}
+
+/// Prints the answers of the table of problems that is read from a folder.
+fn tell_problems(rt: &(impl Files + Print + AllocGlobal), folder: &str) -> anyhow::Result<()> {
+    let text = table_in(rt, folder, "problems")?;
+    print_problems(rt, &text)
+}
+
+/// Prints the answers of each table of a folder, and the text of each fault.
+fn tell_all(rt: &(impl Files + Print + AllocGlobal), folder: &str) -> anyhow::Result<()> {
+    tell_table(rt, folder, Table::Tokens, "tokens")?;
+    tell_table(rt, folder, Table::Numbers, "numbers")?;
+    tell_table(rt, folder, Table::Domains, "domains")?;
+    tell_left_out(rt, folder, "left_out")?;
+    tell_left_out(rt, folder, "left_out_in_durations")?;
+    tell_problems(rt, folder)?;
+    print_faults(rt)
+}
+
 fn main(rt: HostRuntime) -> anyhow::Result<()> {
-    let mut args = env::args(&rt)?;
-    let folder = match args.nth(1) {
-        Some(folder) => folder,
-        None => ".".to_string(rt.alloc())?,
-    };
-    let text = table_in(&rt, &folder, "tokens")?;
-    print_table(&rt, Table::Tokens, "tokens", &text)?;
-    let text = table_in(&rt, &folder, "numbers")?;
-    print_table(&rt, Table::Numbers, "numbers", &text)?;
-    let text = table_in(&rt, &folder, "domains")?;
-    print_table(&rt, Table::Domains, "domains", &text)?;
-    let text = table_in(&rt, &folder, "left_out")?;
-    print_left_out(&rt, "left_out", &text)?;
-    let text = table_in(&rt, &folder, "left_out_in_durations")?;
-    print_left_out(&rt, "left_out_in_durations", &text)?;
-    let text = table_in(&rt, &folder, "problems")?;
-    print_problems(&rt, &text)?;
-    print_faults(&rt)
+    match env::args(&rt)?.nth(1) {
+        Some(folder) => tell_all(&rt, &folder),
+        None => tell_all(&rt, "."),
+    }
 }

@@ -1,4 +1,4 @@
-use pddl_domain::{Bound, Domain, Head, Schema};
+use pddl_domain::{Bound, Domain, Head, Schema, Sort};
 use pddl_meaning::{Atom, Change, Condition, Object, Value};
 use pddl_problem::{Dated, Given, Task};
 use pddl_tokens::{Form, Forms, Head as Look, head_of};
@@ -179,32 +179,54 @@ fn show_objects(
     Ok(())
 }
 
-/// What a domain says.
-pub fn shown_domain(alloc: Global, domain: &Domain) -> anyhow::Result<String> {
-    let mut out = format!(in alloc; "domain {}", domain.name.as_str())?;
-    for sort in domain.types.as_slice() {
+fn show_sorts(alloc: Global, out: &mut String, sorts: &[Sort]) -> anyhow::Result<()> {
+    for sort in sorts {
         let shown = format!(in alloc; "; type {} {}", sort.name.as_str(), sort.parent)?;
         out.push_str(&shown)?;
     }
-    show_objects(alloc, &mut out, "constant", domain.constants.as_slice())?;
-    show_heads(alloc, &mut out, "predicate", domain.predicates.as_slice())?;
-    show_heads(alloc, &mut out, "function", domain.functions.as_slice())?;
-    for action in domain.actions.as_slice() {
-        show_action(alloc, &mut out, action)?;
-    }
-    Ok(out)
-}
-
-fn show_given(alloc: Global, out: &mut String, given: &Given) -> anyhow::Result<()> {
-    let target = shown_atom(alloc, &given.target)?;
-    out.push_str(format!(in alloc; "; value {target} = {}", given.value)?.as_str())?;
     Ok(())
 }
 
-fn show_dated(alloc: Global, out: &mut String, dated: &Dated) -> anyhow::Result<()> {
-    let atom = shown_atom(alloc, &dated.atom)?;
-    let shown = format!(in alloc; "; at {} {} {atom}", dated.tick, dated.positive)?;
-    out.push_str(&shown)?;
+fn show_actions(alloc: Global, out: &mut String, actions: &[Schema]) -> anyhow::Result<()> {
+    for action in actions {
+        show_action(alloc, out, action)?;
+    }
+    Ok(())
+}
+
+/// What a domain says.
+pub fn shown_domain(alloc: Global, domain: &Domain) -> anyhow::Result<String> {
+    let mut out = format!(in alloc; "domain {}", domain.name.as_str())?;
+    show_sorts(alloc, &mut out, domain.types.as_slice())?;
+    show_objects(alloc, &mut out, "constant", domain.constants.as_slice())?;
+    show_heads(alloc, &mut out, "predicate", domain.predicates.as_slice())?;
+    show_heads(alloc, &mut out, "function", domain.functions.as_slice())?;
+    show_actions(alloc, &mut out, domain.actions.as_slice())?;
+    Ok(out)
+}
+
+fn show_facts(alloc: Global, out: &mut String, facts: &[Atom]) -> anyhow::Result<()> {
+    for fact in facts {
+        let atom = shown_atom(alloc, fact)?;
+        out.push_str(format!(in alloc; "; fact {atom}")?.as_str())?;
+    }
+    Ok(())
+}
+
+fn show_values(alloc: Global, out: &mut String, values: &[Given]) -> anyhow::Result<()> {
+    for given in values {
+        let target = shown_atom(alloc, &given.target)?;
+        out.push_str(format!(in alloc; "; value {target} = {}", given.value)?.as_str())?;
+    }
+    Ok(())
+}
+
+fn show_timed(alloc: Global, out: &mut String, timed: &[Dated]) -> anyhow::Result<()> {
+    for dated in timed {
+        let atom = shown_atom(alloc, &dated.atom)?;
+        let shown = format!(in alloc; "; at {} {} {atom}", dated.tick, dated.positive)?;
+        out.push_str(&shown)?;
+    }
     Ok(())
 }
 
@@ -212,16 +234,9 @@ fn show_dated(alloc: Global, out: &mut String, dated: &Dated) -> anyhow::Result<
 pub fn shown_task(alloc: Global, task: &Task) -> anyhow::Result<String> {
     let mut out = "problem".to_string(alloc)?;
     show_objects(alloc, &mut out, "object", task.objects.as_slice())?;
-    for fact in task.init.as_slice() {
-        let atom = shown_atom(alloc, fact)?;
-        out.push_str(format!(in alloc; "; fact {atom}")?.as_str())?;
-    }
-    for given in task.values.as_slice() {
-        show_given(alloc, &mut out, given)?;
-    }
-    for dated in task.timed.as_slice() {
-        show_dated(alloc, &mut out, dated)?;
-    }
+    show_facts(alloc, &mut out, task.init.as_slice())?;
+    show_values(alloc, &mut out, task.values.as_slice())?;
+    show_timed(alloc, &mut out, task.timed.as_slice())?;
     show_conditions(alloc, &mut out, "goal", task.goal.as_slice())?;
     Ok(out)
 }
