@@ -1,6 +1,6 @@
 -- What is read of the first lines of actions, and how they are completed.
-use Rattle.std.proofs.Common.{◌≡◌, ℕ, zero, suc, ◌+◌, ◌-◌, ◌*◌, ◌^◌, ◌≤◌, ◌<◌, true, false, List, [], ◌∷◌, ◌++◌, length, drop, refl, sym, ap, subst, ◌∙◌, append_assoc, arith}
-use Rattle.std.specs.Prelude.{decimal, codes, ◌==◌, max, if◌then◌else◌}
+use Rattle.std.proofs.Common.{◌≡◌, ℕ, zero, suc, ◌+◌, ◌-◌, ◌*◌, ◌^◌, ◌≤◌, ◌<◌, Bool, true, false, List, [], ◌∷◌, ◌++◌, length, drop, refl, sym, ap, subst, ◌∙◌, append_assoc, arith}
+use Rattle.std.specs.Prelude.{decimal, codes, ◌==◌, if◌then◌else◌}
 use Rattle.std.specs.List.{list_all, flat_map}
 use Rattle.std.proofs.lemmas.Bool.{false≢true, and_parts, leb-true}
 use Rattle.std.proofs.lemmas.Bool.Decides.{nat_tests}
@@ -15,7 +15,7 @@ use Rattle.ground_text.specs.Texts.{cond_text, effect_text, body_text, action_te
 use Rattle.ground_text.proofs.Kept.{is_kept_action}
 use Rattle.ground_text.specs.Reading.{first_is, number_at, name_at, conds_at, effects_at, instant_at, durative_at, action_at, repeated_at, counted_at}
 use Rattle.line_text.specs.Lines.{lines}
-use Rattle.ground_text.specs.Completion.{name_or_bangs, kind_or_instant, bangs, filled_action, filled_actions}
+use Rattle.ground_text.specs.Completion.{name_or_bangs, kind_or_instant, first_free, with_name, filled_action, filled_actions}
 use Rattle.ground_text.proofs.Numbers.{number_again}
 use Rattle.ground_text.proofs.Members.{words_plain, name_again}
 use Rattle.ground_text.proofs.Blocks.{both_hold, Good, good_action, good_parts}
@@ -122,13 +122,13 @@ cut_kind_is : (kind : Kind) (j : ℕ) (name : List ℕ) (a : Action) → (cut_bo
 cut_kind_is Instant j name a = refl
 cut_kind_is (Durative least most) j name a = refl
 
-pub kept_action_name : (most : ℕ) (name : List ℕ) → is_name name ≡ true → name_or_bangs most name ≡ name
-kept_action_name most [] h = absurd (false≢true h)
-kept_action_name most (c ∷ name) h = refl
+pub kept_action_name : (place : ℕ) (name : List ℕ) → is_name name ≡ true → name_or_bangs place name ≡ name
+kept_action_name place [] h = absurd (false≢true h)
+kept_action_name place (c ∷ name) h = refl
 
-pub filled_actions_length : (k most : ℕ) (actions : List Action) → length (filled_actions most (cut_actions k actions)) ≡ length actions
-filled_actions_length k most [] = refl
-filled_actions_length k most (a ∷ actions) = ap suc (filled_actions_length (k - action_lines a) _ actions)
+pub filled_actions_length : (k : ℕ) (marks : List Bool) (actions : List Action) → length (filled_actions marks (cut_actions k actions)) ≡ length actions
+filled_actions_length k marks [] = refl
+filled_actions_length k marks (a ∷ actions) = ap suc (filled_actions_length (k - action_lines a) _ actions)
 
 -- the most lines of so many actions
 pub lines_most : (actions : List Action) → lines_of actions ≤ 7 * length actions
@@ -268,27 +268,27 @@ module _ (f n : ℕ) (small : f ≤ 4096) (few : n ≤ 256) where
 
   -- ---- the completed blocks begin with the same lines
 
-  body_same : (kind : Kind) (name : List ℕ) (most j : ℕ) (a : Action) (rest other : List ℕ) → Whole kind a
+  body_same : (kind : Kind) (name : List ℕ) (place j : ℕ) (a : Action) (rest other : List ℕ) → Whole kind a
       → lines (j - body_lines kind) other ≡ lines (j - body_lines kind) rest
-      → lines j (body_text (kind_or_instant (cut_kind j kind)) (filled_action most (cut_body kind j name a)) ++ other) ≡ lines j (body_text kind a ++ rest)
+      → lines j (body_text (kind_or_instant (cut_kind j kind)) (filled_action place (cut_body kind j name a)) ++ other) ≡ lines j (body_text kind a ++ rest)
   unfolding body_shape
-  body_same kind name most zero a rest other g e = refl
-  body_same Instant name most (suc m) a rest other g e =
+  body_same kind name place zero a rest other g e = refl
+  body_same Instant name place (suc m) a rest other g e =
       let j = suc m in
       let left : j - 3 ≡ j - 1 - 1 - 1 = omega arith in
-      let q = filled_action most (cut_body Instant j name a) in
+      let q = filled_action place (cut_body Instant j name a) in
       let se = effects_same f n small few (codes "es") (j - 1 - 1) a.start_effects rest other refl g.start_effects g.kept_start_effects
       (subst (λ (k : ℕ). lines k other ≡ lines k rest) left e) in
       let sc = conds_same f n small few (codes "cs") (j - 1) a.start_conds _ _ refl g.start_conds g.kept_start_conds se in
       ap (lines j) (shape Instant q other)
       ∙ line_same (codes "instant") j (instant_lines a rest) (instant_lines q other) refl sc
       ∙ sym (ap (lines j) (shape Instant a rest))
-  body_same (Durative least most_ticks) name most (suc m) a rest other g e =
+  body_same (Durative least most_ticks) name place (suc m) a rest other g e =
       let kind = Durative least most_ticks in
       let bounds = lengths least most_ticks a g.shaped in
       let j = suc m in
       let left : j - 6 ≡ j - 1 - 1 - 1 - 1 - 1 - 1 = omega arith in
-      let q = filled_action most (cut_body kind j name a) in
+      let q = filled_action place (cut_body kind j name a) in
       let ee = effects_same f n small few (codes "ee") (j - 1 - 1 - 1 - 1 - 1) a.end_effects rest other refl g.end_effects g.kept_end_effects
       (subst (λ (k : ℕ). lines k other ≡ lines k rest) left e) in
       let se = effects_same f n small few (codes "es") (j - 1 - 1 - 1 - 1) a.start_effects _ _ refl g.start_effects g.kept_start_effects ee in
@@ -300,38 +300,38 @@ module _ (f n : ℕ) (small : f ≤ 4096) (few : n ≤ 256) where
       ∙ line_same (length_line least most_ticks) j (durative_lines a rest) (durative_lines q other) (length_inside least most_ticks bounds.0 bounds.1) sc
       ∙ sym (ap (lines j) (shape kind a rest))
 
-  block_same : (k most : ℕ) (a : Action) (rest other : List ℕ) → good_action f n small few a ≡ true
+  block_same : (k place : ℕ) (a : Action) (rest other : List ℕ) → good_action f n small few a ≡ true
       → lines (k - action_lines a) other ≡ lines (k - action_lines a) rest
-      → lines k (action_text (filled_action most (cut_action k a)) ++ other) ≡ lines k (action_text a ++ rest)
-  block_same zero most a rest other h e = refl
-  block_same (suc m) most a rest other h e =
+      → lines k (action_text (filled_action place (cut_action k a)) ++ other) ≡ lines k (action_text a ++ rest)
+  block_same zero place a rest other h e = refl
+  block_same (suc m) place a rest other h e =
       let good = good_parts f n small few a h in
       let less : suc m - 1 ≡ m = omega arith in
       let left : suc m - (1 + body_lines a.kind) ≡ m - body_lines a.kind = omega arith in
-      let q = filled_action most (cut_body a.kind m a.name a) in
-      let name : q.name ≡ a.name = ap (name_or_bangs most) (cut_name a.kind m a.name a) ∙ kept_action_name most a.name good.0 in
+      let q = filled_action place (cut_body a.kind m a.name a) in
+      let name : q.name ≡ a.name = ap (name_or_bangs place) (cut_name a.kind m a.name a) ∙ kept_action_name place a.name good.0 in
       let kind : q.kind ≡ kind_or_instant (cut_kind m a.kind) = ap kind_or_instant (cut_kind_is a.kind m a.name a) in
       let body : lines m (body_text q.kind q ++ other) ≡ lines m (body_text a.kind a ++ rest) =
       ap (λ (x : Kind). lines m (body_text x q ++ other)) kind
-      ∙ body_same a.kind a.name most m a rest other good.1 (subst (λ (i : ℕ). lines i other ≡ lines i rest) left e) in
-      ap (λ (j : ℕ). lines (suc m) (action_text (filled_action most (cut_body a.kind j a.name a)) ++ other)) less
+      ∙ body_same a.kind a.name place m a rest other good.1 (subst (λ (i : ℕ). lines i other ≡ lines i rest) left e) in
+      ap (λ (j : ℕ). lines (suc m) (action_text (filled_action place (cut_body a.kind j a.name a)) ++ other)) less
       ∙ block_line m q other (ap is_name name ∙ good.0)
       ∙ (λ i. codes "act " ++ (name i ++ (10 ∷ body i)))
       ∙ sym (block_line m a rest good.0)
 
-  blocks_same : (k most : ℕ) (actions : List Action) (rest other : List ℕ) → list_all (good_action f n small few) actions ≡ true
+  blocks_same : (k : ℕ) (marks : List Bool) (actions : List Action) (rest other : List ℕ) → list_all (good_action f n small few) actions ≡ true
       → lines (k - lines_of actions) other ≡ lines (k - lines_of actions) rest
-      → lines k (flat_map action_text (filled_actions most (cut_actions k actions)) ++ other) ≡ lines k (flat_map action_text actions ++ rest)
-  blocks_same k most [] rest other h e =
+      → lines k (flat_map action_text (filled_actions marks (cut_actions k actions)) ++ other) ≡ lines k (flat_map action_text actions ++ rest)
+  blocks_same k marks [] rest other h e =
       let same : k - 0 ≡ k = omega arith in
       subst (λ (i : ℕ). lines i other ≡ lines i rest) same e
-  blocks_same k most (a ∷ actions) rest other h e =
+  blocks_same k marks (a ∷ actions) rest other h e =
       let p : (good_action f n small few a ≡ true) × (list_all (good_action f n small few) actions ≡ true) = and_parts _ _ h in
       let left : k - ((1 + body_lines a.kind) + lines_of actions) ≡ (k - (1 + body_lines a.kind)) - lines_of actions = omega arith in
-      let first = filled_action most (cut_action k a) in
-      let others = filled_actions (max most (bangs first.name)) (cut_actions (k - action_lines a) actions) in
+      let first = filled_action (first_free marks) (cut_action k a) in
+      let others = filled_actions (with_name first.name marks) (cut_actions (k - action_lines a) actions) in
       ap (lines k) (append_assoc (action_text first) (flat_map action_text others) other)
-      ∙ block_same k most a (flat_map action_text actions ++ rest) (flat_map action_text others ++ other) p.0
+      ∙ block_same k (first_free marks) a (flat_map action_text actions ++ rest) (flat_map action_text others ++ other) p.0
       (blocks_same (k - action_lines a) _ actions rest other p.1 (subst (λ (i : ℕ). lines i other ≡ lines i rest) left e))
       ∙ sym (ap (lines k) (append_assoc (action_text a) (flat_map action_text actions) rest))
 
@@ -355,9 +355,9 @@ module _ (f n : ℕ) (small : f ≤ 4096) (few : n ≤ 256) where
   -- its completion begins with the same k lines
   pub actions_same : (k : ℕ) (actions : List Action) (rest other : List ℕ) → length actions ≤ 4096 → list_all (is_action f n) actions ≡ true → list_all is_kept_action actions ≡ true
       → lines (k - suc (lines_of actions)) other ≡ lines (k - suc (lines_of actions)) rest
-      → lines k (blocks action_text (codes "actions ") (filled_actions 0 (cut_action_section k actions)) other) ≡ lines k (blocks action_text (codes "actions ") actions rest)
+      → lines k (blocks action_text (codes "actions ") (filled_actions [] (cut_action_section k actions)) other) ≡ lines k (blocks action_text (codes "actions ") actions rest)
   actions_same zero actions rest other short_list h kept e = refl
   actions_same (suc k) actions rest other short_list h kept e =
       let left : suc k - suc (lines_of actions) ≡ k - lines_of actions = omega arith in
-      counted_same action_text (codes "actions ") k actions (filled_actions 0 (cut_actions k actions)) rest other refl (omega (arith, short_list)) (filled_actions_length k 0 actions)
-      (blocks_same k 0 actions rest other (goods actions h kept) (subst (λ (i : ℕ). lines i other ≡ lines i rest) left e))
+      counted_same action_text (codes "actions ") k actions (filled_actions [] (cut_actions k actions)) rest other refl (omega (arith, short_list)) (filled_actions_length k [] actions)
+      (blocks_same k [] actions rest other (goods actions h kept) (subst (λ (i : ℕ). lines i other ≡ lines i rest) left e))

@@ -1,12 +1,12 @@
 -- Filling in one after the other, as loops do.
-use Rattle.std.proofs.Common.{◌≡◌, ℕ, zero, suc, ◌+◌, ◌^◌, ◌<◌, Bool, true, false, ◌&&◌, max, List, [], ◌∷◌, ◌++◌, length, refl, sym, ap, ◌∙◌, append_assoc, arith}
+use Rattle.std.proofs.Common.{◌≡◌, ℕ, zero, suc, ◌+◌, ◌^◌, ◌<◌, Bool, true, false, ◌&&◌, List, [], ◌∷◌, ◌++◌, length, refl, sym, ap, ◌∙◌, append_assoc, arith}
 use Rattle.std.specs.List.{list_all}
 use Rattle.std.proofs.lemmas.Bool.{false≢true, and_from, lt-ltb}
 use Rattle.std.proofs.lemmas.List.{append-nil}
 use Rattle.std.proofs.lemmas.List.Folds.{list_all-append}
 use Rattle.tp_spec.specs.declared.problem.Action.{Action}
 use Rattle.tp_spec.specs.declared.problem.TimedItem.{TimedItem}
-use Rattle.ground_text.specs.Completion.{bang_name, bangs, filled_action, filled_actions, filled_item, filled_timed}
+use Rattle.ground_text.specs.Completion.{bang_name, first_free, with_name, filled_action, filled_actions, filled_item, filled_timed}
 use Rattle.ground_text.specs.Filling.{tick_fits}
 
 pub bang_more : (n : ℕ) → bang_name (n + 1) ≡ bang_name n ++ 33 ∷ []
@@ -16,14 +16,14 @@ bang_more (suc n) =
     ap bang_name next ∙ ap (λ (name : List ℕ). 33 ∷ name) (bang_more n)
 
 -- one action more
-pub action_goes_on : (front : List Action) (most : ℕ) (a : Action) (before rest : List Action) (b : Action) (next : ℕ) (total : List Action)
-    → before ≡ a ∷ rest → b ≡ filled_action most a → next ≡ max most (bangs b.name)
-    → front ++ filled_actions most before ≡ total → (front ++ b ∷ []) ++ filled_actions next rest ≡ total
-action_goes_on front most a before rest b next total is filled grows so_far =
+pub action_goes_on : (front : List Action) (marks : List Bool) (a : Action) (before rest : List Action) (b : Action) (next : List Bool) (total : List Action)
+    → before ≡ a ∷ rest → b ≡ filled_action (first_free marks) a → next ≡ with_name b.name marks
+    → front ++ filled_actions marks before ≡ total → (front ++ b ∷ []) ++ filled_actions next rest ≡ total
+action_goes_on front marks a before rest b next total is filled grows so_far =
     append_assoc front (b ∷ []) (filled_actions next rest)
-    ∙ ap (λ (n : ℕ). front ++ b ∷ filled_actions n rest) grows
-    ∙ ap (λ (c : Action). front ++ c ∷ filled_actions (max most (bangs c.name)) rest) filled
-    ∙ ap (λ (xs : List Action). front ++ filled_actions most xs) (sym is)
+    ∙ ap (λ (m : List Bool). front ++ b ∷ filled_actions m rest) grows
+    ∙ ap (λ (c : Action). front ++ c ∷ filled_actions (with_name c.name marks) rest) filled
+    ∙ ap (λ (xs : List Action). front ++ filled_actions marks xs) (sym is)
     ∙ so_far
 
 -- one timed item more

@@ -176,10 +176,10 @@ cut_scaled (suc zero) s h = refl
 cut_scaled (suc (suc k)) s h = ap (λ (x : ℕ). x == 1 || x == 10 || x == 100 || x == 1000) (scale_kept s h) ∙ h
 
 cut_actions_hold : (k f facts n fluents : ℕ) (actions : List Action) → AsMany k f facts → AsMany k n fluents
-    → ActionRules facts fluents actions → ActionRules f n (filled_actions 0 (cut_action_section k actions))
+    → ActionRules facts fluents actions → ActionRules f n (filled_actions [] (cut_action_section k actions))
 cut_actions_hold zero f facts n fluents actions same_facts same_fluents a = record { few = refl; are = refl; kept = refl; told_apart = refl }
 cut_actions_hold (suc k) f facts n fluents actions same_facts same_fluents a =
-    let filled = filled_actions 0 (cut_action_section (suc k) actions) in
+    let filled = filled_actions [] (cut_action_section (suc k) actions) in
     subst (λ (x : ℕ). ActionRules x n filled) (sym (same_facts (omega arith)))
     (subst (λ (x : ℕ). ActionRules facts x filled) (sym (same_fluents (omega arith))) (actions_hold facts fluents (suc k) actions a))
 

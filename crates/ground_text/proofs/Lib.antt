@@ -5,6 +5,7 @@ pub mod Words
 pub mod Blocks
 pub mod Merging
 pub mod LinesLen
+pub mod Marks
 pub mod Filled
 pub mod Cuts
 pub mod Picks

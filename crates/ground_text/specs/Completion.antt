@@ -1,6 +1,6 @@
 -- How the lines that a text begins with are completed to those of a problem.
-use Rattle.std.specs.Prelude.{ℕ, zero, suc, ◌+◌, ◌-◌, ℤ, Bool, true, ◌&&◌, ◌==◌, max, List, [], ◌∷◌, ◌++◌, length, map, Option, None, if◌then◌else◌}
-use Rattle.std.specs.List.{list_all}
+use Rattle.std.specs.Prelude.{ℕ, zero, suc, ◌+◌, ◌-◌, ℤ, Bool, true, false, ◌&&◌, ◌==◌, List, [], ◌∷◌, ◌++◌, length, map, Option, None, if◌then◌else◌}
+use Rattle.std.specs.List.{list_all, prefix_len}
 use Rattle.tp_spec.specs.Lists.{is_empty}
 use Rattle.tp_spec.specs.WellFormed.{Ground, IsWellFormed}
 use Rattle.tp_spec.specs.declared.list.Name.{Name}
@@ -43,10 +43,25 @@ bang_name (suc n) = 33 ∷ bang_name n
 abbrev pub bangs : List ℕ → ℕ
 bangs name = if list_all (λ c. c == 33) name then length name else 0
 
--- where the name of an action is missing, one more `!` than any of the names before it is of
+-- the first place without a mark, or the one behind them all
+abbrev pub first_free : List Bool → ℕ
+first_free marks = prefix_len (λ mark. mark) marks
+
+-- marks with one more at a place
+abbrev pub marked : ℕ → List Bool → List Bool
+marked zero [] = true ∷ []
+marked zero (mark ∷ marks) = true ∷ marks
+marked (suc place) [] = false ∷ marked place []
+marked (suc place) (mark ∷ marks) = mark ∷ marked place marks
+
+-- marks of the names of `!` alone, of n + 1 bytes at the place n, with that of one name more
+abbrev pub with_name : List ℕ → List Bool → List Bool
+with_name name marks = if bangs name == 0 then marks else marked (bangs name - 1) marks
+
+-- where the name of an action is missing, the name of `!` alone that belongs to the place
 abbrev pub name_or_bangs : ℕ → List ℕ → List ℕ
-name_or_bangs most [] = bang_name (suc most)
-name_or_bangs most (c ∷ name) = c ∷ name
+name_or_bangs place [] = bang_name (suc place)
+name_or_bangs place (c ∷ name) = c ∷ name
 
 -- where nothing stands behind the name of an action, it is an instant one
 abbrev pub kind_or_instant : Kind → Kind
@@ -54,8 +69,8 @@ kind_or_instant Instant = Instant
 kind_or_instant (Durative least most) = if most == 0 then Instant else Durative least most
 
 abbrev pub filled_action : ℕ → Action → Action
-filled_action most a = record {
-  name = name_or_bangs most a.name;
+filled_action place a = record {
+  name = name_or_bangs place a.name;
   kind = kind_or_instant a.kind;
   start_conds = a.start_conds;
   all_conds = a.all_conds;
@@ -64,11 +79,13 @@ filled_action most a = record {
   end_effects = a.end_effects;
 }
 
--- actions with the missing ones filled in; before them stand names of at most so many `!`
-abbrev pub filled_actions : ℕ → List Action → List Action
-filled_actions most [] = []
-filled_actions most (a ∷ actions) =
-    filled_action most a ∷ filled_actions (max most (bangs (name_or_bangs most a.name))) actions
+-- actions with the missing ones filled in: each gets a name of as few `!` as no action before it
+-- has, at least one; the marks are of the actions before these
+abbrev pub filled_actions : List Bool → List Action → List Action
+filled_actions marks [] = []
+filled_actions marks (a ∷ actions) =
+    filled_action (first_free marks) a
+    ∷ filled_actions (with_name (name_or_bangs (first_free marks) a.name) marks) actions
 
 -- where a timed item is missing, the first fact is added at the first tick that may come
 abbrev pub filled_item : ℕ → TimedItem → TimedItem
@@ -93,7 +110,7 @@ completed p = record {
   scale = scale_or_one p.scale;
   facts = filled [] p.facts;
   fluents = filled [] p.fluents;
-  actions = filled_actions 0 p.actions;
+  actions = filled_actions [] p.actions;
   timed = filled_timed 0 p.timed;
   init = p.init;
   values = filled_values p.fluents p.values;

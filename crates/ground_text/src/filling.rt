@@ -1,7 +1,7 @@
-ghost use Rattle.std.specs.Prelude.{◌≡◌, ◌+◌, ◌^◌, ◌<◌, ◌&&◌, ◌==◌, max, [], ◌∷◌, IfOk};
+ghost use Rattle.std.specs.Prelude.{◌≡◌, ◌+◌, ◌^◌, ◌<◌, ◌&&◌, ◌==◌, ◌≤◌, length, [], ◌∷◌, IfOk, OnOk};
 ghost use Rattle.std.specs.List.{list_all};
 ghost use Rattle.tp_spec.specs.Lists.{is_empty as is_empty_of};
-ghost use Rattle.ground_text.specs.Completion.{bang_name as bang_name_of, bangs as bangs_of, name_or_bangs as name_or_bangs_of, kind_or_instant as kind_or_instant_of, filled_action as filled_action_of, filled_actions as filled_actions_of};
+ghost use Rattle.ground_text.specs.Completion.{bang_name as bang_name_of, bangs as bangs_of, first_free as first_free_of, marked as marked_of, with_name as with_name_of, name_or_bangs as name_or_bangs_of, kind_or_instant as kind_or_instant_of, filled_action as filled_action_of, filled_actions as filled_actions_of};
 ghost use Rattle.ground_text.specs.Filling.{tick_of, IsFilledItem, AreFilledTimed};
 
 use crate::bytes::name_of;
@@ -39,28 +39,63 @@ fn bangs(name: &str) -> usize
     }
 }
 
-/// The most `!` of an action's name behind which missing ones are filled in, so that no text asks
-/// for many times its own size of memory: there are at most 4,096 of them.
-const MOST_BANGS: usize = 16_384;
-
-/// A name of one `!` more. More than the most of them count as memory refused.
-fn more_bangs(alloc: Global, most: usize) -> Result<Name, AllocError>
-    ensures { IfOk result (λ n. n ≡ bang_name_of (most + 1)) }
+/// The first place without a mark, or the one behind them all.
+fn first_free(marks: &[bool]) -> usize
+    ensures is { result ≡ first_free_of marks.now }
+    ensures within { result ≤ length marks.now }
 {
-    if most >= MOST_BANGS {
-        return Err(AllocError);
-    }
-    bang_name(alloc, most + 1)
+    marks.iter().take_while(|mark| **mark).count()
 }
 
-/// The name of an action, or where it is missing one of more `!` than any before it.
-fn name_or_bangs(alloc: Global, most: usize, name: Name) -> Result<Name, AllocError>
-    ensures { IfOk result (λ n. n ≡ name_or_bangs_of most name) }
+/// Puts as many places without a mark behind the others as it takes for this one to be there.
+#[tactic(auto, using(crate::proofs::Marks::marked_push))]
+fn reach(marks: &mut Vec<bool>, place: usize) -> Result<(), AllocError>
+    ensures same { IfOk result (λ _. marked_of place marks.new.items
+        ≡ marked_of place marks.old.items) }
+    ensures room { OnOk result (place < length marks.new.items) }
+{
+    for _ in marks.len()..=place {
+        marks.push(false)?;
+    }
+    Ok(())
+}
+
+/// Marks a place.
+#[tactic(auto, using(crate::proofs::Marks::marked_set))]
+fn mark(marks: &mut Vec<bool>, place: usize) -> Result<(), AllocError>
+    ensures { IfOk result (λ _. marks.new.items ≡ marked_of place marks.old.items) }
+{
+    reach(marks, place)?;
+    marks[place] = true;
+    Ok(())
+}
+
+/// Marks the place of a name of `!` alone.
+fn mark_name(marks: &mut Vec<bool>, name: &str) -> Result<(), AllocError>
+    ensures { IfOk result (λ _. marks.new.items ≡ with_name_of name.now marks.old.items) }
+{
+    let count = bangs(name);
+    if count == 0 {
+        return Ok(());
+    }
+    mark(marks, count - 1)
+}
+
+/// A name of `!` alone whose place has no mark.
+fn free_name(alloc: Global, marks: &[bool]) -> Result<Name, AllocError>
+    ensures { IfOk result (λ n. n ≡ bang_name_of (first_free_of marks.now + 1)) }
+{
+    bang_name(alloc, first_free(marks) + 1)
+}
+
+/// The name of an action, or where it is missing one of `!` alone whose place has no mark.
+fn name_or_bangs(alloc: Global, marks: &[bool], name: Name) -> Result<Name, AllocError>
+    ensures { IfOk result (λ n. n ≡ name_or_bangs_of (first_free_of marks.now) name) }
 {
     if !name.as_str().is_empty() {
         return Ok(name);
     }
-    more_bangs(alloc, most)
+    free_name(alloc, marks)
 }
 
 fn kind_or_instant(kind: Kind) -> Kind
@@ -77,8 +112,8 @@ fn kind_or_instant(kind: Kind) -> Kind
 }
 
 /// An action whose name and kind are filled in where they are missing.
-fn filled_action(alloc: Global, most: usize, action: Action) -> Result<Action, AllocError>
-    ensures { IfOk result (λ a. a ≡ filled_action_of most action) }
+fn filled_action(alloc: Global, marks: &[bool], action: Action) -> Result<Action, AllocError>
+    ensures { IfOk result (λ a. a ≡ filled_action_of (first_free_of marks.now) action) }
 {
     let Action {
         name,
@@ -89,7 +124,7 @@ fn filled_action(alloc: Global, most: usize, action: Action) -> Result<Action, A
         start_effects,
         end_effects,
     } = action;
-    let name = name_or_bangs(alloc, most, name)?;
+    let name = name_or_bangs(alloc, marks, name)?;
     Ok(Action {
         name,
         kind: kind_or_instant(kind),
@@ -101,22 +136,16 @@ fn filled_action(alloc: Global, most: usize, action: Action) -> Result<Action, A
     })
 }
 
-/// How many `!` the longest name of `!` alone has, with one action more.
-fn most_bangs(most: usize, action: &Action) -> usize
-    ensures { result ≡ max most (bangs_of action.now.name) }
-{
-    most.max(bangs(action.name.as_str()))
-}
-
-/// Actions with the missing ones filled in, each under a name of its own.
+/// Actions with the missing ones filled in, each under a name of its own: of as few `!` as no
+/// action before it has, so of no more than there are actions.
 pub fn filled_actions(alloc: Global, actions: List<Action>) -> Result<List<Action>, AllocError>
-    ensures { IfOk result (λ xs. xs ≡ filled_actions_of 0 actions) }
+    ensures { IfOk result (λ xs. xs ≡ filled_actions_of [] actions) }
 {
     let mut items = Vec::new(alloc);
-    let mut most = 0;
+    let mut marks = Vec::new(alloc);
     for action in actions.into_vec() {
-        let action = filled_action(alloc, most, action)?;
-        most = most_bangs(most, &action);
+        let action = filled_action(alloc, marks.as_slice(), action)?;
+        mark_name(&mut marks, action.name.as_str())?;
         items.push(action)?;
     }
     Ok(List::of(items))

@@ -15,9 +15,7 @@ use tp_spec::{LineFault, Problem};
 /// The problem whose canonical text this is, of less than 2^31 bytes. `Line` where it is the text
 /// of no problem: the number, from 1, of the first line such that no ground text begins with the
 /// lines up to it. A last piece without a line feed is no line, so it is the fault itself where the
-/// lines before it fit; so is the line behind `end` where more follows. Want of memory also answers
-/// a text that breaks off before its last action and has one under a name of more than 16,384 `!`
-/// alone.
+/// lines before it fit; so is the line behind `end` where more follows.
 ///
 /// What is read is written again and compared with the text.
 pub fn read_problem_text(alloc: Global, text: &[u8]) -> Result<Problem, LineFault>
