@@ -31,14 +31,14 @@ use std::{env, fs};
 
 /// Prints the answers of a table of problems, whose lines give the domain too.
 fn print_problems(rt: &(impl Print + AllocGlobal), text: &str) -> anyhow::Result<()> {
-    let mut domain = "";
+    let mut domain = String::new(rt.alloc());
     let mut number = 0u32;
     for line in text.lines() {
         number = number.wrapping_add(1);
         match line.strip_prefix("domain ") {
-            Some(text) => domain = text,
+            Some(text) => domain = String::from_str(rt.alloc(), text)?,
             None => {
-                let told = answer(rt.alloc(), Table::Problems(domain), line)?;
+                let told = answer(rt.alloc(), Table::Problems(&domain), line)?;
                 println!(rt; "problems {number} {told}")?;
             }
         }
