@@ -36,7 +36,7 @@ ended-fits : (p : Problem) (n a g : ℕ) (xs : List Act) → g < n → Each (Fit
 ended-fits p n a g [] b h = tt
 ended-fits p n a g (x ∷ xs) b h = ended-cons (Each (Fits p n)) a g x xs (h.0, ended-fits p n a g xs b h.1) (record { known = h.0.known; opens = h.0.opens; closes = b }, h.1)
 
-there : {A : Type 0} (xs : List A) (k : ℕ) → k < length xs → (x : A) × (slice_get xs k ≡ Some x)
+pub there : {A : Type 0} (xs : List A) (k : ℕ) → k < length xs → (x : A) × (slice_get xs k ≡ Some x)
 there [] k b = absurd (omega arith)
 there (x ∷ xs) zero b = (x, refl)
 there (x ∷ xs) (suc k) b = there xs k (omega arith)

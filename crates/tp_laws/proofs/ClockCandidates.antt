@@ -32,7 +32,7 @@ late_enough : (x : Schedule) (later : ℕ) (act : Act) (o : Option Timed) → la
 late_enough x later act None le = le
 late_enough x later act (Some c) le = tt
 
-past_end : {A : Type 0} (xs : List A) (a : ℕ) → slice_get xs a ≡ None → length xs ≤ a
+pub past_end : {A : Type 0} (xs : List A) (a : ℕ) → slice_get xs a ≡ None → length xs ≤ a
 past_end [] a e = omega arith
 past_end (x ∷ xs) zero e = absurd cc
 past_end (x ∷ xs) (suc a) e = omega (arith, past_end xs a e)

@@ -11,7 +11,7 @@ use Rattle.tp_spec.specs.Schedules.{Schedule, IsOnTime, acts_by, commits_by, awa
 use Rattle.tp_laws.specs.Clocks.{OfWord, MoreIsFewer, LiveEarlier, StartFrom}
 use Rattle.tp_laws.proofs.EarlyLists.{in-left}
 
-in_get : {A : Type 0} (xs : List A) (k : ℕ) (x : A) → slice_get xs k ≡ Some x → IsIn x xs
+pub in_get : {A : Type 0} (xs : List A) (k : ℕ) (x : A) → slice_get xs k ≡ Some x → IsIn x xs
 in_get [] k x e = absurd cc
 in_get (y ∷ xs) zero x e = inl cc
 in_get (y ∷ xs) (suc k) x e = inr (in_get xs k x e)

@@ -15,6 +15,10 @@ use Rattle.tp_spec.specs.Machine.{Machine, Node, without, children, word_of, ste
 use Rattle.tp_laws.specs.Early.{IsEarly}
 use Rattle.tp_laws.proofs.EarlyLists.{each-in, each-true, in-left, in-right}
 
+-- each front of a possible plan's word is live, before the clock moves
+abbrev pub FrontsLive : Problem → Limits → Type 0
+FrontsLive p l = (plan : Plan) (front : List Mark) → Possible p l 0 [] plan → BeginsWith (spell p plan) front → Live p l 0 [] front
+
 -- a node of another id stays
 pub in-without : (id : ℕ) (n : Node) (ns : List Node) → (n.id == id) ≡ false → IsIn n ns → IsIn n (without id ns)
 in-without id n [] e h = absurd h
@@ -40,16 +44,13 @@ word_of-in id n (m ∷ ns) apart (inr h) e = by_test (word_of-in id n ns (and_pa
       absurd (false≢true (ap not (sym (eq-eqb m.id n.id same)) ∙ differ))
 
 module _ (p : Problem) (l : Limits) (m : Machine) (early : IsEarly m) where
-  abbrev FrontsLive : Type 0
-  FrontsLive = (plan : Plan) (front : List Mark) → Possible p l 0 [] plan → BeginsWith (spell p plan) front → Live p l 0 [] front
-
   now-live : (w : List Mark) → Live p l 0 [] w → Live p l m.now m.commits w
   now-live w h = subst (λ n. Live p l n m.commits w) (sym early.still) (subst (λ cs. Live p l 0 cs w) (sym early.free) h)
 
   then-possible : (plan : Plan) → Possible p l m.now m.commits plan → Possible p l 0 [] plan
   then-possible plan h = subst (λ cs. Possible p l 0 cs plan) early.free (subst (λ n. Possible p l n m.commits plan) early.still h)
 
-  pub cover-expand : FrontsLive → (actor id : ℕ) (marks : List Mark) → ExpandIsLegal p l m actor id marks → (plan : Plan) → Possible p l m.now m.commits plan → IsCovered p m plan → IsCovered p (step l m (Expand actor id marks)) plan
+  pub cover-expand : FrontsLive p l → (actor id : ℕ) (marks : List Mark) → ExpandIsLegal p l m actor id marks → (plan : Plan) → Possible p l m.now m.commits plan → IsCovered p m plan → IsCovered p (step l m (Expand actor id marks)) plan
   cover-expand live actor id marks legal plan possible cover = by_test (cover.node.id == id) refl where
     w : List Mark
     w = word_of id m.nodes

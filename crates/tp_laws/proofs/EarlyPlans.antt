@@ -12,10 +12,9 @@ use Rattle.tp_spec.specs.declared.plan.Limits.{Limits}
 use Rattle.tp_spec.specs.declared.plan.Mark.{Mark}
 use Rattle.tp_spec.specs.declared.plan.Timed.{Timed}
 use Rattle.tp_spec.specs.declared.problem.Problem.{Problem}
-use Rattle.tp_spec.specs.Lists.{is_empty, each_pair, some_and, IsIn}
+use Rattle.tp_spec.specs.Lists.{is_empty, some_and, IsIn}
 use Rattle.tp_spec.specs.States.{State, holds}
 use Rattle.tp_spec.specs.Items.{own, after, next, effects_of, invariants}
-use Rattle.tp_spec.specs.Interference.{interfere}
 use Rattle.tp_spec.specs.Courses.{Valid, Possible, Passes, happening, state_before, keeps_invariants, runs_at, act_before, in_range}
 use Rattle.tp_spec.specs.Words.{Act, Progress, Sound, Follow, progress, state_past, at_start, groups, acts_of, marked, spelled, spell}
 use Rattle.tp_spec.specs.Schedules.{Schedule, IsLeast, finish, plan_of, timed_act, last_tick}
@@ -25,7 +24,7 @@ use Rattle.tp_laws.proofs.Readings.{state_before-spelled}
 use Rattle.tp_laws.proofs.EarlyPlain.{IsInstant}
 use Rattle.tp_laws.proofs.EarlyLists.{each-map, map-same, true-each, pair-from, next-from}
 use Rattle.tp_laws.proofs.EarlyLive.{Short, acts-short, finish-short, no-earlier, least-short}
-use Rattle.tp_laws.proofs.EarlyReading.{good, chain-to, marked-follow, spelled-front, follow-front, follow-back}
+use Rattle.tp_laws.proofs.EarlyReading.{chain-to, marked-follow, only-apart, spelled-front, follow-front, follow-back}
 use Rattle.tp_laws.proofs.EarlyTold.{Tells, Placed, earlier, told, none-behind, told-sound}
 
 earlier_cases : (x y : Timed) → earlier x y ≡ true → (x.start < y.start) ⊎ ((x.start ≡ y.start) × (x.action < y.action))
@@ -37,13 +36,13 @@ earlier_cases x y h = by_test (nat_lt x.start y.start) refl h where
 differ : (a b : ℕ) → a < b → (a == b) ≡ false
 differ a b lt = elim (a == b) as (λ c. (a == b) ≡ c → c ≡ false) [ true ↦ λ e. absurd (omega (arith, eqb-true a b e, lt)) | false ↦ λ e. refl ] refl
 
-in_order : (x y : Timed) → earlier x y ≡ true → act_before x y ≡ true
+pub in_order : (x y : Timed) → earlier x y ≡ true → act_before x y ≡ true
 in_order x y h = by_case (earlier_cases x y h) where
   by_case : (x.start < y.start) ⊎ ((x.start ≡ y.start) × (x.action < y.action)) → act_before x y ≡ true
   by_case (inl b) = ap (λ c. c || (x.start == y.start && (nat_lt x.action y.action || (x.action == y.action && nat_le x.length y.length)))) (lt-ltb x.start y.start b)
   by_case (inr e) = or_right (nat_lt x.start y.start) _ (and_from _ _ (eq-eqb x.start y.start e.0) (ap (λ c. c || (x.action == y.action && nat_le x.length y.length)) (lt-ltb x.action y.action e.1)))
 
-once : (x y : Timed) → earlier x y ≡ true → not (x.action == y.action && x.start == y.start) ≡ true
+pub once : (x y : Timed) → earlier x y ≡ true → not (x.action == y.action && x.start == y.start) ≡ true
 once x y h = by_case (earlier_cases x y h) where
   never : (b : Bool) → not (b && false) ≡ true
   never true = refl
@@ -71,13 +70,6 @@ module _ (p : Problem) (plain : IsInstant p) where
   state_at : (acts : List Timed) (t : ℕ) → state_before p acts t ≡ Some (state_past p (progress p (spelled p acts t)))
   state_at acts t = state_before-spelled p acts t (λ k b. always acts (suc k))
 
-  only_apart : (is : List Item) → each_pair (good p) is ≡ true → each_pair (λ i j. not (interfere p i j)) is ≡ true
-  only_apart [] h = refl
-  only_apart (i ∷ is) h = and_from _ _ (only i is (and_parts _ _ h).0) (only_apart is (and_parts _ _ h).1) where
-    only : (i : Item) (is : List Item) → list_all (good p i) is ≡ true → list_all (λ j. not (interfere p i j)) is ≡ true
-    only i [] h = refl
-    only i (j ∷ is) h = and_from _ _ (and_parts _ _ (and_parts _ _ h).0).1 (only i is (and_parts _ _ h).1)
-
   -- nothing runs at any tick
   no_invariants : (acts : List Timed) (t : ℕ) (s : State) → Each (λ x. x.length ≡ 0) acts → keeps_invariants p acts t s ≡ true
   no_invariants acts t s h = true-each (λ x. not (runs_at t x) || list_all (holds s) (invariants p x.action)) acts (each-map (λ x. x.length ≡ 0) _ acts (λ x e. at_rest x e) h) where
@@ -93,9 +85,9 @@ module _ (p : Problem) (plain : IsInstant p) where
       let is : List Item = happening p acts t in
       let front = spelled-front p acts (suc t) n (omega (arith, b)) in
       let up_to : Follow p (at_start p) (spelled p acts t ++ marked is) = follow-front p (at_start p) (spelled p acts (suc t)) front.0 (subst (Follow p (at_start p)) front.1 follow) in
-      let asked = marked-follow p plain (progress p (spelled p acts t)) is (follow-back p (at_start p) (spelled p acts t) (marked is) up_to) in
+      let asked = marked-follow p (progress p (spelled p acts t)) is (follow-back p (at_start p) (spelled p acts t) (marked is) up_to) in
       record {
-        apart = only_apart is (chain-to p [] is asked.1).1;
+        apart = only-apart p is (chain-to p [] is asked.1).1;
         met = subst (λ o. some_and o (λ s. list_all (own p s) is) ≡ true) (sym (state_at acts t)) asked.0;
         exists = always acts (suc t);
         kept = subst (λ o. some_and o (keeps_invariants p acts t) ≡ true) (sym (state_at acts (suc t))) (no_invariants acts t _ short);

@@ -31,15 +31,30 @@ pub follow-append : (p : Problem) (c : Progress) (u v : List Mark) → Follow p 
 follow-append p c [] v r s = s
 follow-append p c (m ∷ u) v r s = (r.0, follow-append p (read_mark p c m) u v r.1 s)
 
--- a front of what is spelled up to a later tick
-pub spelled-front : (p : Problem) (acts : List Timed) (t n : ℕ) → t ≤ n → (rest : List Mark) × (spelled p acts n ≡ spelled p acts t ++ rest)
-spelled-front p acts t zero b = let e : t ≡ 0 = omega (arith, b) in ([], ap (spelled p acts) (sym e) ∙ sym (append-nil (spelled p acts t)))
-spelled-front p acts t (suc n) b = by_order (nat_lt t (suc n)) refl (λ le. spelled-front p acts t n le) where
-  by_order : (before : Bool) → nat_lt t (suc n) ≡ before → (t ≤ n → (rest : List Mark) × (spelled p acts n ≡ spelled p acts t ++ rest)) → (rest : List Mark) × (spelled p acts (suc n) ≡ spelled p acts t ++ rest)
+-- its first mark, where it has one, opens a group
+abbrev pub Opens : List Mark → Type 0
+Opens [] = Unit {0}
+Opens (m ∷ w) = m.fresh ≡ true
+
+opens-marked : (v : List Mark) (is : List Item) → Opens v → Opens (v ++ marked is)
+opens-marked [] [] h = tt
+opens-marked [] (i ∷ is) h = refl
+opens-marked (m ∷ v) is h = h
+
+-- what is spelled from a tick on
+pub spelled-rest : (p : Problem) (acts : List Timed) (t n : ℕ) → t ≤ n → (rest : List Mark) × (spelled p acts n ≡ spelled p acts t ++ rest) × Opens rest
+spelled-rest p acts t zero b = let e : t ≡ 0 = omega (arith, b) in ([], ap (spelled p acts) (sym e) ∙ sym (append-nil (spelled p acts t)), tt)
+spelled-rest p acts t (suc n) b = by_order (nat_lt t (suc n)) refl (λ le. spelled-rest p acts t n le) where
+  by_order : (before : Bool) → nat_lt t (suc n) ≡ before → (t ≤ n → (rest : List Mark) × (spelled p acts n ≡ spelled p acts t ++ rest) × Opens rest) → (rest : List Mark) × (spelled p acts (suc n) ≡ spelled p acts t ++ rest) × Opens rest
   by_order true e ih =
       let r = ih (omega (arith, ltb-true t (suc n) e)) in
-      (r.0 ++ marked (happening p acts n), ap (λ w. w ++ marked (happening p acts n)) r.1 ∙ append_assoc (spelled p acts t) r.0 (marked (happening p acts n)))
-  by_order false e ih = let same : t ≡ suc n = omega (arith, b, ltb-false t (suc n) e) in ([], ap (spelled p acts) (sym same) ∙ sym (append-nil (spelled p acts t)))
+      let is : List Item = happening p acts n in
+      (r.0 ++ marked is, ap (λ w. w ++ marked is) r.1 ∙ append_assoc (spelled p acts t) r.0 (marked is), opens-marked r.0 is r.2)
+  by_order false e ih = let same : t ≡ suc n = omega (arith, b, ltb-false t (suc n) e) in ([], ap (spelled p acts) (sym same) ∙ sym (append-nil (spelled p acts t)), tt)
+
+-- a front of what is spelled up to a later tick
+pub spelled-front : (p : Problem) (acts : List Timed) (t n : ℕ) → t ≤ n → (rest : List Mark) × (spelled p acts n ≡ spelled p acts t ++ rest)
+spelled-front p acts t n b = let r = spelled-rest p acts t n b in (r.0, r.1)
 
 pub quiet-read : (p : Problem) → IsInstant p → (c : Progress) (w : List Mark) → Quiet c → Quiet (read_on p c w)
 quiet-read p plain c [] q = q
@@ -90,6 +105,29 @@ module _ (p : Problem) where
       let less = after-less group j is rest.0 in
       ((h.0, less.0), and_from _ _ less.1 rest.1)
 
+  -- what the marks of a happening ask, where they follow
+  joining-follow : (d : Progress) (is : List Item) → Follow p d (map joining is) → (list_all (own p d.before) is ≡ true) × Chain d.group is
+  joining-follow d [] r = (refl, tt)
+  joining-follow d (j ∷ is) r =
+      let joins = and_parts _ _ (and_parts _ _ r.0).1 in
+      let rest = joining-follow (with_item d j) is r.1 in
+      (and_from _ _ (and_parts _ _ joins.0).1 rest.0, (joins.1, rest.1))
+
+  pub marked-follow : (c : Progress) (is : List Item) → Follow p c (marked is) → (list_all (own p (state_past p c)) is ≡ true) × Chain [] is
+  marked-follow c [] r = (refl, tt)
+  marked-follow c (i ∷ is) r =
+      let joins = and_parts _ _ (and_parts _ _ r.0).1 in
+      let rest = joining-follow (with_item (past_group p c) i) is r.1 in
+      (and_from _ _ (and_parts _ _ joins.0).1 rest.0, (refl, rest.1))
+
+  -- items in such an order don't interfere
+  pub only-apart : (is : List Item) → each_pair (good) is ≡ true → each_pair (λ i j. not (interfere p i j)) is ≡ true
+  only-apart [] h = refl
+  only-apart (i ∷ is) h = and_from _ _ (only i is (and_parts _ _ h).0) (only-apart is (and_parts _ _ h).1) where
+    only : (i : Item) (is : List Item) → list_all (good i) is ≡ true → list_all (λ j. not (interfere p i j)) is ≡ true
+    only i [] h = refl
+    only i (j ∷ is) h = and_from _ _ (and_parts _ _ (and_parts _ _ h).0).1 (only i is (and_parts _ _ h).1)
+
 module _ (p : Problem) (plain : IsInstant p) where
   -- a start of one of the problem's actions, whose own conditions hold
   pub record MayStart (s : State) (i : Item) : Type 0 where
@@ -118,21 +156,6 @@ module _ (p : Problem) (plain : IsInstant p) where
         and_from _ _ shut (and_from _ _ (and_from _ _ (may-come b i qb may.0) may.0.own) refl),
         follow-joining (with_item b i) is refl qb may.1 chain.1,
       )
-
-  -- and what the marks of a happening ask, where they follow
-  joining-follow : (d : Progress) (is : List Item) → Follow p d (map joining is) → (list_all (own p d.before) is ≡ true) × Chain p d.group is
-  joining-follow d [] r = (refl, tt)
-  joining-follow d (j ∷ is) r =
-      let joins = and_parts _ _ (and_parts _ _ r.0).1 in
-      let rest = joining-follow (with_item d j) is r.1 in
-      (and_from _ _ (and_parts _ _ joins.0).1 rest.0, (joins.1, rest.1))
-
-  pub marked-follow : (c : Progress) (is : List Item) → Follow p c (marked is) → (list_all (own p (state_past p c)) is ≡ true) × Chain p [] is
-  marked-follow c [] r = (refl, tt)
-  marked-follow c (i ∷ is) r =
-      let joins = and_parts _ _ (and_parts _ _ r.0).1 in
-      let rest = joining-follow (with_item (past_group p c) i) is r.1 in
-      (and_from _ _ (and_parts _ _ joins.0).1 rest.0, (refl, rest.1))
 
   -- the invariants of what runs hold, since nothing runs
   none-runs : (c : Progress) (test : ℕ → Bool) (as' : List ℕ) → Quiet c → list_all (λ a. not (runs_after p c a) || test a) as' ≡ true

@@ -55,7 +55,7 @@ marked-more : (is : List Item) (i : Item) → is_empty is ≡ false → marked (
 marked-more [] i h = absurd (false≢true (sym h))
 marked-more (j ∷ is) i h = ap (λ w. record { fresh = true; item = j } ∷ w) (map-append joining is (i ∷ []))
 
-acts-append : (p : Problem) (n : ℕ) (u v : List Mark) (xs : List Act) → acts_from p n (u ++ v) xs ≡ acts_from p (n + groups u) v (acts_from p n u xs)
+pub acts-append : (p : Problem) (n : ℕ) (u v : List Mark) (xs : List Act) → acts_from p n (u ++ v) xs ≡ acts_from p (n + groups u) v (acts_from p n u xs)
 acts-append p n [] v xs = let e : n ≡ n + 0 = omega arith in ap (λ k. acts_from p k v xs) e
 acts-append p n (m ∷ u) v xs =
     let k : ℕ = cond m.fresh (n + 1) n in

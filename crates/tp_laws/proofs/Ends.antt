@@ -17,7 +17,7 @@ pub groups-append : (u v : List Mark) → groups (u ++ v) ≡ groups u + groups 
 groups-append [] v = omega arith
 groups-append (m ∷ u) v = let ih = groups-append u v in omega arith
 
-groups-joining : (is : List Item) → groups (map joining is) ≡ 0
+pub groups-joining : (is : List Item) → groups (map joining is) ≡ 0
 groups-joining [] = refl
 groups-joining (i ∷ is) = let ih = groups-joining is in omega arith
 
@@ -54,7 +54,7 @@ last-tick p acts n h = by_test (is_empty (happening p acts n)) h where
   by_test false h = last_or-append (Some 0) (happening_ticks p acts n) n
 
 -- the groups grow with the ticks
-groups-rise : (p : Problem) (acts : List Timed) (m n : ℕ) → m ≤ n → groups (spelled p acts m) ≤ groups (spelled p acts n)
+pub groups-rise : (p : Problem) (acts : List Timed) (m n : ℕ) → m ≤ n → groups (spelled p acts m) ≤ groups (spelled p acts n)
 groups-rise p acts m zero h = let e : 0 ≡ m = omega (arith, h) in subst (λ k. groups (spelled p acts k) ≤ groups (spelled p acts zero)) e (omega arith)
 groups-rise p acts m (suc n) h = elim (le_suc m n h) [
   | inl b ↦

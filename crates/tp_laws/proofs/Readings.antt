@@ -26,7 +26,7 @@ group-joining p c [] = sym (append-nil c.group)
 group-joining p c (i ∷ is) = group-joining p (with_item c i) is ∙ append_assoc c.group (i ∷ []) is
 
 -- a happening's marks lead to the state after it
-past-marked : (p : Problem) (c : Progress) (is : List Item) → state_past p (read_on p c (marked is)) ≡ next (state_past p c) (effects_of p is)
+pub past-marked : (p : Problem) (c : Progress) (is : List Item) → state_past p (read_on p c (marked is)) ≡ next (state_past p c) (effects_of p is)
 past-marked p c [] = sym (next-none (state_past p c))
 past-marked p c (i ∷ is) =
     let opened : Progress = with_item (past_group p c) i in

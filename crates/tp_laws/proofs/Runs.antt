@@ -1,9 +1,10 @@
--- What holds in every state of a run of a plain problem: the clock stands at 0 without commitments, ids tell nodes apart,
--- each word is live, and each possible plan begins with the word of a node.
+-- What holds in every state of a run: the clock stands at 0 without commitments, ids tell nodes apart, each word is live
+-- and no longer than its id, and each possible plan begins with the word of a node.
 use Rattle.std.proofs.Common.{◌≡◌, refl, sym, ap, subst, ◌∙◌, ℕ, suc, ◌+◌, ◌<◌, ◌≤◌, ◌⊎◌, inl, inr, ◌==◌, max, nat_lt, Bool, true, false, not, ◌&&◌, cond, List, [], ◌∷◌, ◌++◌, length, map, Some, arith}
 use Rattle.std.specs.List.{filter, list_all}
 use Rattle.std.proofs.lemmas.Bool.{and_parts, and_from, false≢true, lt-ltb, ltb-true, eq-eqb}
 use Rattle.std.proofs.lemmas.Bool.Decides.{nat_tests}
+use Rattle.std.proofs.lemmas.List.{length-append}
 use Rattle.std.proofs.lemmas.List.Folds.{list_all-append}
 use Rattle.tp_spec.specs.declared.event.Event.{Event}
 use Rattle.tp_spec.specs.declared.event.Event.TheVariants.{Tick, Drop, Dispatch, Take, Expand, Publish, Limit, Exhaust, Halt}
@@ -15,13 +16,10 @@ use Rattle.tp_spec.specs.Courses.{Possible}
 use Rattle.tp_spec.specs.Lists.{IsIn, BeginsWith, each_pair}
 use Rattle.tp_spec.specs.Machine.{Machine, Node, first, root, step, end_of, state_of, AreLegal, Legal, IsRun, IsCovered, DropIsLegal, ExpandIsLegal, taken_by, without, children, word_of}
 use Rattle.tp_spec.specs.Schedules.{Live}
-use Rattle.tp_spec.specs.Words.{Sound, spell}
-use Rattle.tp_laws.specs.Early.{IsPlain, IsEarly, consecutive}
+use Rattle.tp_spec.specs.Words.{spell}
 use Rattle.tp_laws.specs.Histories.{IsTree, is_below}
-use Rattle.tp_laws.proofs.EarlyPlain.{is_instant}
-use Rattle.tp_laws.proofs.EarlyLive.{schedule-short}
-use Rattle.tp_laws.proofs.EarlyFronts.{live-front}
-use Rattle.tp_laws.proofs.EarlyCover.{cover-expand, in-without, word_of-in}
+use Rattle.tp_laws.proofs.EarlyLists.{each-in, each-true}
+use Rattle.tp_laws.proofs.EarlyCover.{FrontsLive, cover-expand, in-without, word_of-in}
 
 -- histories in parts
 
@@ -139,12 +137,27 @@ taken-id actor id n = elim (n.id == id) as (λ b. (cond b (record n { taker = So
 pub taken-word : (actor id : ℕ) (n : Node) → (taken_by actor id n).word ≡ n.word
 taken-word actor id n = elim (n.id == id) as (λ b. (cond b (record n { taker = Some actor }) n).word ≡ n.word) [ true ↦ refl | false ↦ refl ]
 
-module _ (p : Problem) (l : Limits) (plain : IsPlain p) where
+taken-short : (actor id : ℕ) (n : Node) → length n.word ≤ n.id → length (taken_by actor id n).word ≤ (taken_by actor id n).id
+taken-short actor id n e = elim (n.id == id) as (λ b. length (cond b (record n { taker = Some actor }) n).word ≤ (cond b (record n { taker = Some actor }) n).id) [ true ↦ e | false ↦ e ]
+
+module _ (p : Problem) (l : Limits) (fronts : FrontsLive p l) where
   -- the empty word is live
   live-root : Live p l 0 [] []
-  live-root =
-      let sound : Sound p [] = record { follows = tt } in
-      record { sound = sound; schedule = consecutive; is = schedule-short p (is_instant p plain) l [] sound (record { starts = omega arith; opened = omega arith }) }
+  live-root = record {
+    sound = record { follows = tt };
+    schedule = record { tick = λ g. g; end = λ a. 0 };
+    is = record {
+      rises = λ g below. absurd (omega (arith, below));
+      within = λ g below. absurd (omega (arith, below));
+      timed = λ k. tt;
+      before_next = λ g below. absurd (omega (arith, below));
+      lengths = λ a h. absurd h;
+      open_late = λ a g h. absurd h;
+      on_time = λ a k. tt;
+      late = λ c g h. absurd h;
+      few = omega arith;
+    };
+  }
 
   pub tree-first : IsTree p l first
   tree-first = record {
@@ -153,6 +166,7 @@ module _ (p : Problem) (l : Limits) (plain : IsPlain p) where
     live = λ n h. elim h [ inl e ↦ subst (λ w. Live p l 0 [] w) (ap (λ k. k.word) e) live-root | inr k ↦ absurd k ];
     covers = λ plan h. record { node = root; there = inl refl; begins = record { rest = spell p plan; is = refl } };
     few = omega arith;
+    short = λ n h. elim h [ inl e ↦ subst (λ (k : Node). length k.word ≤ k.id) e (omega arith) | inr k ↦ absurd k ];
   }
 
   -- the same nodes at the same clock
@@ -167,6 +181,7 @@ module _ (p : Problem) (l : Limits) (plain : IsPlain p) where
     live = λ k h. t.live k (subst (λ ns. IsIn k ns) nodes h);
     covers = λ plan h. let c : IsCovered p m plan = t.covers plan h in record { node = c.node; there = subst (λ ns. IsIn c.node ns) (sym nodes) c.there; begins = c.begins };
     few = subst (λ k. k ≤ max 1 l.nodes) (sym made) t.few;
+    short = λ k h. t.short k (subst (λ ns. IsIn k ns) nodes h);
   }
 
   module _ (m : Machine) (t : IsTree p l m) where
@@ -193,6 +208,7 @@ module _ (p : Problem) (l : Limits) (plain : IsPlain p) where
       live = λ n h. t.live n (in-filter (λ k. not (k.id == id)) n m.nodes h);
       covers = λ plan h. let c : IsCovered p m plan = t.covers plan h in by_test plan h c (c.node.id == id) refl;
       few = t.few;
+      short = λ n h. t.short n (in-filter (λ k. not (k.id == id)) n m.nodes h);
     }
       where
         by_test : (plan : Plan) → Possible p l 0 [] plan → (c : IsCovered p m plan) → (b : Bool) → (c.node.id == id) ≡ b → IsCovered p (step l m (Drop id)) plan
@@ -221,6 +237,9 @@ module _ (p : Problem) (l : Limits) (plain : IsPlain p) where
             begins = subst (λ w. BeginsWith (spell p plan) w) (sym (taken-word actor id c.node)) c.begins;
           };
       few = t.few;
+      short = λ n h.
+          let from = in-map (taken_by actor id) n m.nodes h in
+          subst (λ (k : Node). length k.word ≤ k.id) from.2 (taken-short actor id from.0 (t.short from.0 from.1));
     }
 
     tree-expand : (actor id : ℕ) (marks : List Mark) → ExpandIsLegal p l m actor id marks → IsTree p l (step l m (Expand actor id marks))
@@ -236,8 +255,12 @@ module _ (p : Problem) (l : Limits) (plain : IsPlain p) where
         | inl i ↦ t.live n (in-filter (λ k. not (k.id == id)) n m.nodes i)
         | inr i ↦ live-child n (in-children w m.made marks n i)
       ];
-      covers = λ plan h. cover-expand p l m t.early (live-front p (is_instant p plain) l) actor id marks legal plan (now-possible plan h) (t.covers plan h);
+      covers = λ plan h. cover-expand p l m t.early fronts actor id marks legal plan (now-possible plan h) (t.covers plan h);
       few = omega (arith, legal.room);
+      short = λ n h. elim (in-append n (without id m.nodes) (children w m.made marks) h) [
+        | inl i ↦ t.short n (in-filter (λ k. not (k.id == id)) n m.nodes i)
+        | inr i ↦ short-child n (in-children w m.made marks n i)
+      ];
     }
       where
         w : List Mark
@@ -248,6 +271,15 @@ module _ (p : Problem) (l : Limits) (plain : IsPlain p) where
 
         word : w ≡ legal.node.word
         word = word_of-in id legal.node m.nodes t.early.told_apart legal.taken.there (eq-eqb legal.node.id id legal.taken.named)
+
+        -- the node was given an id below those of its children
+        below-made : legal.node.id < m.made
+        below-made = ltb-true legal.node.id m.made (each-in (λ n. is_below m.made n ≡ true) m.nodes legal.node (each-true (is_below m.made) m.nodes t.below) legal.taken.there)
+
+        short-child : (n : Node) → IsChild w m.made marks n → length n.word ≤ n.id
+        short-child n c =
+            let longer : length n.word ≡ length legal.node.word + 1 = ap length c.word ∙ length-append w (c.mark ∷ []) ∙ ap (λ v. length v + 1) word in
+            omega (arith, longer, t.short legal.node legal.taken.there, below-made, c.new)
 
         live-child : (n : Node) → IsChild w m.made marks n → Live p l 0 [] n.word
         live-child n c = subst (λ v. Live p l 0 [] v) (ap (λ v. v ++ c.mark ∷ []) (sym word) ∙ sym c.word) (then-live (legal.node.word ++ c.mark ∷ []) (legal.exact.live c.mark c.there))

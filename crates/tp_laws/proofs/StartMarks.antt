@@ -1,5 +1,5 @@
 -- The starts that may follow a live word of a plain problem, and keep it short, are its live marks, in order.
-use Rattle.std.proofs.Common.{◌≡◌, refl, sym, ap, subst, ◌∙◌, ℕ, zero, suc, ◌+◌, ◌<◌, ◌≤◌, Bool, true, false, cond, nat_lt, nat_le, List, [], ◌∷◌, ◌++◌, length, map, length-append, append-nil, arith, inl, inr}
+use Rattle.std.proofs.Common.{◌≡◌, refl, sym, ap, subst, ◌∙◌, ℕ, zero, suc, ◌+◌, ◌<◌, ◌≤◌, Bool, true, false, cond, nat_lt, nat_le, List, [], ◌∷◌, ◌++◌, length, map, length-append, arith, inl, inr}
 use Rattle.std.specs.List.{AllByRecursion as Each, filter, range_with_len}
 use Rattle.std.proofs.lemmas.Bool.{false≢true, and_parts, cases_lt, ltb-true, ltb-false, leb-true, le-leb}
 use Rattle.tp_spec.specs.declared.plan.Item.{Item}
@@ -35,17 +35,17 @@ each-both : {A : Type 0} (P : A → Type 0) (xs ys : List A) → Each P xs → E
 each-both P [] ys h k = k
 each-both P (x ∷ xs) ys h k = (h.0, each-both P xs ys h.1 k)
 
-in-map : {A B : Type 0} (f : A → B) (xs : List A) (x : A) → IsIn x xs → IsIn (f x) (map f xs)
+pub in-map : {A B : Type 0} (f : A → B) (xs : List A) (x : A) → IsIn x xs → IsIn (f x) (map f xs)
 in-map f [] x h = absurd h
 in-map f (y ∷ xs) x (inl e) = inl (ap f e)
 in-map f (y ∷ xs) x (inr h) = inr (in-map f xs x h)
 
-in-filter : {A : Type 0} (test : A → Bool) (xs : List A) (x : A) → IsIn x xs → test x ≡ true → IsIn x (filter test xs)
+pub in-filter : {A : Type 0} (test : A → Bool) (xs : List A) (x : A) → IsIn x xs → test x ≡ true → IsIn x (filter test xs)
 in-filter test [] x h t = absurd h
 in-filter test (y ∷ xs) x (inl e) t = subst (λ b. IsIn x (cond b (y ∷ filter test xs) (filter test xs))) (sym (ap test e ∙ t)) (inl e)
 in-filter test (y ∷ xs) x (inr h) t = elim (test y) as (λ b. IsIn x (cond b (y ∷ filter test xs) (filter test xs))) [ true ↦ inr (in-filter test xs x h t) | false ↦ in-filter test xs x h t ]
 
-in-range : (n a k : ℕ) → a ≤ k → k < a + n → IsIn k (range_with_len a n)
+pub in-range : (n a k : ℕ) → a ≤ k → k < a + n → IsIn k (range_with_len a n)
 in-range zero a k le lt = absurd (omega (arith, le, lt))
 in-range (suc n) a k le lt =
     elim (cases_lt a k) [

@@ -1,5 +1,5 @@
 -- Laws on histories of the machine: their parts, and what holds in each state of a run.
-use Rattle.std.specs.Prelude.{◌≡◌, ◌↔◌, ℕ, ◌≤◌, max, Bool, nat_lt, List, [], ◌++◌, IsTrue}
+use Rattle.std.specs.Prelude.{◌≡◌, ◌↔◌, ℕ, ◌≤◌, max, Bool, nat_lt, List, [], ◌++◌, length, IsTrue}
 use Rattle.std.specs.List.{list_all}
 use Rattle.tp_spec.specs.declared.event.Event.{Event}
 use Rattle.tp_spec.specs.declared.plan.Limits.{Limits}
@@ -26,8 +26,8 @@ LegalInParts = (p : Problem) (l : Limits) (m : Machine) (es fs : List Event)
 abbrev pub is_below : ℕ → Node → Bool
 is_below made n = nat_lt n.id made
 
--- What each state of a run of a plain problem keeps: the clock stands at the start, nothing is
--- dispatched, and ids tell nodes apart; each node's id was given and its word is live; each
+-- What each state of a run keeps: the clock stands at the start, nothing is dispatched, and ids
+-- tell nodes apart; each node's id was given, and its word is live and no longer than its id; each
 -- possible plan begins with the word of a node; and no more ids were given than there may be.
 pub record IsTree (p : Problem) (l : Limits) (m : Machine) : Type 0 where
   pub early : IsEarly m
@@ -35,8 +35,9 @@ pub record IsTree (p : Problem) (l : Limits) (m : Machine) : Type 0 where
   pub live : (n : Node) → IsIn n m.nodes → Live p l 0 [] n.word
   pub covers : (plan : Plan) → Possible p l 0 [] plan → IsCovered p m plan
   pub few : m.made ≤ max 1 l.nodes
+  pub short : (n : Node) → IsIn n m.nodes → length n.word ≤ n.id
 
--- Each run of a plain problem leads to such a state.
+-- Each run leads to such a state.
 abbrev pub RunsLeadToTrees : Problem → Limits → Type 0
 RunsLeadToTrees p l = (history : List Event) → IsRun p l history → IsTree p l (state_of l history)
 

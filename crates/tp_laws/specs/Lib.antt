@@ -4,3 +4,4 @@ pub mod Early
 pub mod Clocks
 pub mod Histories
 pub mod Starts
+pub mod Plans

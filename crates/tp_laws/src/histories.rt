@@ -1,5 +1,5 @@
-ghost use Rattle.tp_laws.specs.Early.{OfPlain};
 ghost use Rattle.tp_laws.specs.Histories.{EndsInParts, LegalInParts, RunsLeadToTrees, OpenNodesStand, TakesKeepIds};
+ghost use Rattle.tp_laws.specs.Plans.{OfFormed};
 
 /// A history in two parts leads where its second part leads from the state behind the first, and
 /// its events are legal exactly where those of both parts are.
@@ -8,10 +8,10 @@ pub fn histories_in_parts()
     ensures legal { LegalInParts }
 {}
 
-/// In each state of a run of a plain problem the clock stands, nothing is dispatched, ids tell
-/// nodes apart, words are live, possible plans are covered, and ids are in bounds.
+/// In each state of a run the clock stands, nothing is dispatched, ids tell nodes apart, words are
+/// live and no longer than their ids, possible plans are covered, and ids are in bounds.
 pub fn states_of_runs()
-    ensures { OfPlain RunsLeadToTrees }
+    ensures { OfFormed RunsLeadToTrees }
 {}
 
 /// An open node stands, and keeps its id when it is taken.

@@ -7,6 +7,7 @@ mod early;
 mod examples;
 mod histories;
 mod laws;
+mod plans;
 mod starts;
 
 pub use clocks::{acts_of_sound_words, earlier_clocks, one_tick_tells};
@@ -17,4 +18,8 @@ pub use examples::{
 };
 pub use histories::{histories_in_parts, states_of_runs, takes_of_nodes};
 pub use laws::{end_of_word, nothing_happens, order_of_items, states_read};
+pub use plans::{
+    fronts_of_plans, laws_of_words, plans_are_of_words, possible_plans, spelled_plans,
+    words_of_plans,
+};
 pub use starts::live_starts;
