@@ -94,6 +94,13 @@ impl BitRow {
         word_at(&self.words, number as usize / 64) & (1 << (number % 64)) != 0
     }
 
+    /// Its word at an index, the bits of 64 numbers from `64 * index` on; 0 behind the last word.
+    pub fn word(&self, index: usize) -> u64
+        ensures { result ≡ slice_index self.now.words.items index }
+    {
+        word_at(&self.words, index)
+    }
+
     /// Whether it has a number in common with another set.
     pub fn meets(&self, other: &BitRow) -> bool
         ensures { IsTrue result ↔ InBoth self.now.words.items other.now.words.items }

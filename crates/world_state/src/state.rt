@@ -1,4 +1,4 @@
-ghost use Rattle.std.specs.Prelude.{◌≡◌, [], ◌∷◌, ◌++◌, IfOk, OnOk, IsTrue, slice_get};
+ghost use Rattle.std.specs.Prelude.{◌≡◌, [], ◌∷◌, ◌++◌, IfOk, OnOk, IsTrue, slice_get, slice_index};
 ghost use Rattle.std.specs.Option.{option_and_then};
 ghost use Rattle.std.specs.List.{list_all};
 ghost use Rattle.tp_spec.specs.States.{initial as first_state};
@@ -79,6 +79,14 @@ impl State {
         ensures { result ≡ (meaning self.now).fact fact }
     {
         self.facts.has(fact)
+    }
+
+    /// The word at an index of its row of true facts, the bits of 64 facts from `64 * index` on; 0
+    /// behind the last word.
+    pub fn fact_word(&self, index: usize) -> u64
+        ensures { result ≡ slice_index self.now.words index }
+    {
+        self.facts.word(index)
     }
 
     /// The value of a fluent, none where it is undefined.

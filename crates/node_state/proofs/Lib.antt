@@ -1,0 +1,8 @@
+pub mod Ranges
+pub mod Insides
+pub mod Closing
+pub mod Shallow
+pub mod Growing
+pub mod Granting
+pub mod Leveling
+pub mod Bits

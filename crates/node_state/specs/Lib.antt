@@ -1,0 +1,6 @@
+pub mod Growths
+pub mod Founds
+pub mod Readings
+pub mod Candidates
+pub mod Judges
+pub mod Levels
