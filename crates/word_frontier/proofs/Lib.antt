@@ -1,0 +1,4 @@
+pub mod Keeping
+pub mod Nodes
+pub mod Queues
+pub mod Words
