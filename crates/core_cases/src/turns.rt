@@ -1,6 +1,5 @@
 use crate::problems::unfit;
 use open_tree::{Taken, Tree};
-use problem_rules::is_plain;
 use std::alloc::Global;
 use std::io;
 use tp_spec::{Cause, Limits, Problem};
@@ -40,12 +39,8 @@ fn takes_of(mut tree: Tree<'_, ListClock>) -> Taking {
     }
 }
 
-/// The takes from the tree of a plain problem. It gives none where the problem is not plain, or
-/// memory is refused.
+/// The takes from the tree of a problem. It gives none where memory is refused.
 fn takes(alloc: Global, problem: &Problem) -> Option<Taking> {
-    if !is_plain(problem) {
-        return None;
-    }
     let limits = Limits {
         actions: 64,
         horizon: 9,

@@ -9,7 +9,7 @@ use Rattle.tp_spec.specs.declared.plan.Mark.{Mark}
 use Rattle.tp_spec.specs.declared.problem.Problem.{Problem}
 use Rattle.tp_spec.specs.Lists.{IsIn, each_pair}
 use Rattle.tp_spec.specs.Machine.{Machine, Node, first, step, end_of, state_of, AreLegal, Legal, IsRun, TakeIsLegal, is_open, taken_by, without, children, word_of}
-use Rattle.tp_laws.specs.Early.{IsPlain}
+use Rattle.tp_laws.proofs.EarlyCover.{FrontsLive}
 use Rattle.tp_laws.proofs.EarlyLists.{each-in, each-true}
 use Rattle.open_tree.specs.Views.{JobView}
 use Rattle.open_tree.specs.Jobs.{IsJobOf}
@@ -114,12 +114,12 @@ pub record JobStands (l : Limits) (history : List Event) (actor : ℕ) (job : Jo
   pub clock : job.clock ≡ 0
   pub commits : job.commits ≡ []
 
-pub job-stands : (p : Problem) (l : Limits) → IsPlain p → (history : List Event) (actor : ℕ) (job : JobView) → IsRun p l history → IsJobOf l history actor job → JobStands l history actor job
-job-stands p l plain history actor job run j =
+pub job-stands : (p : Problem) (l : Limits) → FrontsLive p l → (history : List Event) (actor : ℕ) (job : JobView) → IsRun p l history → IsJobOf l history actor job → JobStands l history actor job
+job-stands p l fronts history actor job run j =
     let front : List Event = j.front ++ Take actor job.id ∷ [] in
     let m : Machine = state_of l front in
     let parts : AreLegal p l first front × AreLegal p l m j.rest = legal-parts p l first front j.rest (subst (AreLegal p l first) j.split run.legal) in
-    let t : IsTree p l m = tree-run p l plain first front parts.0 (tree-first p l plain) in
+    let t : IsTree p l m = tree-run p l fronts first front parts.0 (tree-first p l fronts) in
     let given : j.node.id < m.made = ltb-true j.node.id m.made (each-in (λ n. is_below m.made n ≡ true) m.nodes j.node (each-true (is_below m.made) m.nodes t.below) j.taken.there) in
     let same : (n : Node) → IsIn n m.nodes → n.id ≡ job.id → n ≡ j.node = λ n i e. same-node n j.node m.nodes t.early.told_apart i j.taken.there (e ∙ sym j.taken.named) in
     let held : IsHeld m actor job.id job.node.word = record {

@@ -9,32 +9,32 @@ use Rattle.tp_spec.specs.Lists.{IsIn}
 use Rattle.tp_spec.specs.Machine.{Machine, Node, first, rank, step, state_of, is_open, open_nodes, taken_by, IsTaken, TakeIsLegal}
 use Rattle.tp_spec.specs.Schedules.{Live}
 use Rattle.tp_laws.proofs.EarlyLists.{filter-map}
-use Rattle.open_tree.specs.declared.plain.PlainActions.{PlainActions}
-use Rattle.open_tree.specs.Views.{NodeView, JobView}
-use Rattle.open_tree.specs.Nodes.{FrontierView, IsLeastOpen, open_node}
-use Rattle.open_tree.specs.Nodes as kept
+use Rattle.word_frontier.specs.Nodes.{NodeView, FrontierView, IsLeastOpen, open_node}
+use Rattle.word_frontier.specs.Nodes as kept
+use Rattle.open_tree.specs.Views.{JobView}
 use Rattle.open_tree.specs.Answers.{GivesJob, GivesNothing}
 use Rattle.open_tree.specs.Stands.{Stands, plain_node}
 use Rattle.open_tree.specs.Turns.{has_outcome}
 use Rattle.tp_laws.specs.Histories.{IsTree}
 use Rattle.tp_laws.proofs.Runs.{tree-step, in-filter, map-in, end-append}
+use Rattle.tp_laws.proofs.WordLaws.{fronts-live}
 use Rattle.open_tree.proofs.Deeds.{take-legal, least-best, quiet-in}
 use Rattle.open_tree.proofs.Standing.{ticking, tree-ticking, may-act, frontier-ticking, frontier-take, stands-more, between}
 
-module _ (p : Problem) (l : Limits) (rows : PlainActions) (f : FrontierView) (h : List Event) (s : Stands p l rows f h) (none : has_outcome h ≡ false) (actor reading : ℕ) where
+module _ (p : Problem) (l : Limits) (f : FrontierView) (h : List Event) (s : Stands p l f h) (none : has_outcome h ≡ false) (actor reading : ℕ) where
   abbrev m : Machine
-  m = ticking p l rows f h s none actor reading
+  m = ticking p l f h s none actor reading
 
   -- the least open node was taken
   module _ (id : ℕ) (v : NodeView) (least : IsLeastOpen f.nodes (open_node id v)) where
     legal : TakeIsLegal p l m actor id
-    legal = take-legal p l s.plain m (tree-ticking p l rows f h s none actor reading) f actor id v (may-act p l rows f h s none actor reading) (frontier-ticking p l rows f h s none actor reading f refl refl) least
+    legal = take-legal p l s.formed m (tree-ticking p l f h s none actor reading) f actor id v (may-act p l f h s none actor reading) (frontier-ticking p l f h s none actor reading f refl refl) least
 
     abbrev node : Node
     node = plain_node (open_node id v)
 
     there : IsIn node m.nodes
-    there = in-filter is_open node m.nodes (least-best p f m (open_node id v) (frontier-ticking p l rows f h s none actor reading f refl refl) least).there
+    there = in-filter is_open node m.nodes (least-best p f m (open_node id v) (frontier-ticking p l f h s none actor reading f refl refl) least).there
 
     abbrev taken_node : Node
     taken_node = record { id = id; word = v.word; taker = Some actor }
@@ -49,14 +49,14 @@ module _ (p : Problem) (l : Limits) (rows : PlainActions) (f : FrontierView) (h 
     after = step l m (Take actor id)
 
     tree-after : IsTree p l after
-    tree-after = tree-step p l s.plain m (tree-ticking p l rows f h s none actor reading) (Take actor id) legal
+    tree-after = tree-step p l (fronts-live p l s.formed) m (tree-ticking p l f h s none actor reading) (Take actor id) legal
 
-    pub stands-take : (g : FrontierView) (new : List Event) → g.nodes ≡ map (kept.taken_by actor id) f.nodes → g.made ≡ f.made → new ≡ h ++ Tick actor reading ∷ Take actor id ∷ [] → Stands p l rows g new
+    pub stands-take : (g : FrontierView) (new : List Event) → g.nodes ≡ map (kept.taken_by actor id) f.nodes → g.made ≡ f.made → new ≡ h ++ Tick actor reading ∷ Take actor id ∷ [] → Stands p l g new
     stands-take g new nodes made grown =
-        stands-more p l rows f g h new (Tick actor reading ∷ Take actor id ∷ []) s
-        (between p l rows f h s none, (legal, tt))
-        (inr (quiet-in p l s.plain after tree-after taken_node there-taken))
-        (frontier-take p l f g m actor id nodes made (frontier-ticking p l rows f h s none actor reading f refl refl))
+        stands-more p l f g h new (Tick actor reading ∷ Take actor id ∷ []) s
+        (between p l f h s none, (legal, tt))
+        (inr (quiet-in p l s.formed after tree-after taken_node there-taken))
+        (frontier-take p l f g m actor id nodes made (frontier-ticking p l f h s none actor reading f refl refl))
         grown
 
     pub gives-job : (new : List Event) (job : JobView) → new ≡ h ++ Tick actor reading ∷ Take actor id ∷ [] → job.problem ≡ p → job.limits ≡ l → job.id ≡ id → job.node ≡ v → job.clock ≡ 0 → job.commits ≡ [] → GivesJob p l h new actor reading job

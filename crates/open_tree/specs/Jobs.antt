@@ -1,9 +1,11 @@
 -- What a job and its sprouts say of a history.
-use Rattle.std.specs.Prelude.{◌≡◌, ℕ, List, [], ◌∷◌, ◌++◌}
+use Rattle.std.specs.Prelude.{◌≡◌, ℕ, List, [], ◌∷◌, ◌++◌, map}
 use Rattle.tp_spec.specs.declared.event.Event.{Event}
 use Rattle.tp_spec.specs.declared.event.Event.TheVariants.{Take}
 use Rattle.tp_spec.specs.declared.plan.Limits.{Limits}
 use Rattle.tp_spec.specs.Machine.{Node, IsTaken, AreLiveMarks, state_of}
+use Rattle.tp_laws.specs.Plans.{is_whole}
+use Rattle.node_state.specs.Growths.{rank_with}
 use Rattle.open_tree.specs.Views.{JobView, SproutsView}
 use Rattle.open_tree.specs.JobViews.{view_of}
 
@@ -19,6 +21,9 @@ pub record IsJobOf (l : Limits) (history : List Event) (actor : ℕ) (job : JobV
   pub clock : job.clock ≡ (state_of l (front ++ Take actor job.id ∷ [])).now
   pub commits : job.commits ≡ (state_of l (front ++ Take actor job.id ∷ [])).commits
 
--- the marks are exactly those that make the job's word a live word under its view, in order
+-- the marks are exactly those that make the job's word a live word under its view, in order; the
+-- ranks are those of the longer words; and it is told whether the word may be a whole plan's
 pub record AreSprouts (s : SproutsView) : Type 0 where
   pub exact : AreLiveMarks s.job.problem s.job.limits (view_of s.job) s.job.node.word s.marks
+  pub ranked : s.ranks ≡ map (rank_with s.job.problem s.job.node.word) s.marks
+  pub told : s.whole ≡ is_whole s.job.problem s.job.node.word

@@ -1,5 +1,5 @@
 -- What a tree keeps of the search: its history is a run, and its frontier is the machine's.
-use Rattle.std.specs.Prelude.{◌≡◌, List, [], ◌∷◌, map, None}
+use Rattle.std.specs.Prelude.{◌≡◌, ◌<◌, List, [], ◌∷◌, length, map, None}
 use Rattle.tp_spec.specs.declared.event.Event.{Event}
 use Rattle.tp_spec.specs.declared.plan.Limits.{Limits}
 use Rattle.tp_spec.specs.declared.plan.Plan.{Plan}
@@ -8,10 +8,8 @@ use Rattle.tp_spec.specs.Courses.{Possible}
 use Rattle.tp_spec.specs.Lists.{IsIn}
 use Rattle.tp_spec.specs.Machine.{Machine, Node, IsCovered, IsWholeRun, rank, state_of}
 use Rattle.tp_spec.specs.WellFormed.{IsWellFormed}
-use Rattle.tp_laws.specs.Early.{IsPlain}
-use Rattle.open_tree.specs.declared.plain.PlainActions.{PlainActions}
-use Rattle.open_tree.specs.Nodes.{RankedNode, FrontierView}
-use Rattle.open_tree.specs.PlainTables.{AreTables}
+use Rattle.word_frontier.specs.Nodes.{RankedNode, FrontierView}
+use Rattle.word_network.specs.Conditions.{AreLimits}
 
 -- a node of the frontier as the machine has it, without its rank
 abbrev pub plain_node : RankedNode → Node
@@ -23,21 +21,21 @@ pub record IsFrontierOf (p : Problem) (f : FrontierView) (m : Machine) : Type 0 
   pub made : f.made ≡ m.made
   pub ranked : (n : RankedNode) → IsIn n f.nodes → n.rank ≡ rank p n.word
 
--- The problem is plain and the tables are its actions'; the history is a run that ends settled, and
--- the frontier is that of the state to which it leads.
-pub record Stands (p : Problem) (l : Limits) (rows : PlainActions) (f : FrontierView)
-    (history : List Event) : Type 0 where
-  pub plain : IsPlain p
-  pub tables : AreTables p rows
+-- The problem is well formed and the limits are in range; the history is a run that ends settled,
+-- and the frontier is that of the state to which it leads.
+pub record Stands (p : Problem) (l : Limits) (f : FrontierView) (history : List Event)
+    : Type 0 where
+  pub formed : IsWellFormed p
+  pub limited : AreLimits l
   pub whole : IsWholeRun p l history
   pub frontier : IsFrontierOf p f (state_of l history)
 
--- the tables of a problem's actions, and a frontier of its root alone, which is open
-pub record IsRoot (p : Problem) (rows : PlainActions) (f : FrontierView) : Type 0 where
+-- a frontier of a problem's root alone, which is open, with a queue for each rank
+pub record IsRoot (p : Problem) (f : FrontierView) : Type 0 where
   pub formed : IsWellFormed p
-  pub tables : AreTables p rows
   pub nodes : f.nodes ≡ record { id = 0; word = []; rank = rank p []; taker = None } ∷ []
   pub made : f.made ≡ 1
+  pub ranks : length p.goal < f.ranks
 
 -- each plan that is still possible begins with the word of a node
 abbrev pub CoversAll : Problem → Limits → Machine → Type 0

@@ -1,14 +1,11 @@
--- What contracts see of a node, a job, sprouts and a tree.
-use Rattle.std.specs.Prelude.{ℕ, List}
+-- What contracts see of a job, sprouts and a tree.
+use Rattle.std.specs.Prelude.{ℕ, Bool, List}
 use Rattle.tp_spec.specs.declared.event.Event.{Event}
 use Rattle.tp_spec.specs.declared.plan.Limits.{Limits}
 use Rattle.tp_spec.specs.declared.plan.Mark.{Mark}
 use Rattle.tp_spec.specs.declared.plan.Timed.{Timed}
 use Rattle.tp_spec.specs.declared.problem.Problem.{Problem}
-
-pub record NodeView : Type 0 where
-  pub word : List Mark
-  pub rank : ℕ
+use Rattle.word_frontier.specs.Nodes.{NodeView}
 
 -- a job: the node that was taken, and the view under which it was
 pub record JobView : Type 0 where
@@ -19,10 +16,13 @@ pub record JobView : Type 0 where
   pub clock : ℕ
   pub commits : List Timed
 
--- a job, and the marks that make its word a live word
+-- a job, the marks that make its word a live word, the ranks of these words, and whether the word
+-- may be a whole plan's
 pub record SproutsView : Type 0 where
   pub job : JobView
   pub marks : List Mark
+  pub ranks : List ℕ
+  pub whole : Bool
 
 -- a tree: its problem and limits, its clock now and as it was at the start, and its history
 pub record TreeView (C : Type 0) : Type 0 where

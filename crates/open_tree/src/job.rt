@@ -1,9 +1,9 @@
 ghost use Rattle.std.specs.Prelude.{◌≡◌};
 ghost use Rattle.open_tree.specs.Jobs.{AreSprouts};
 
-use crate::node::Node;
 use std::marker::Model;
 use tp_spec::{Limits, List, Mark, Problem, Timed};
+use word_frontier::Node;
 
 /// A node that an actor took, and the view under which it did: the clock, the commitments, the
 /// limits and the problem.
@@ -106,11 +106,14 @@ impl<'p> Job<'p> {
     }
 }
 
-/// A job with the marks that make its word a live word under its view, in order.
+/// A job with what may come behind its word: the marks that make it a live word under its view, in
+/// order, the rank of each of these words, and whether the word itself may be a whole plan's.
 #[derive(Drop)]
 pub struct Sprouts<'p> {
     job: Job<'p>,
     marks: List<Mark>,
+    ranks: List<u32>,
+    whole: bool,
 }
 
 impl<'p> Model for Sprouts<'p> {
@@ -123,20 +126,30 @@ impl<'p> Model for Sprouts<'p> {
 
     ghost coded = { Prim.hlevel (codes, expr.the_row.coded) };
 
-    ghost view = { λ s. record { job = s.job; marks = s.marks } };
+    ghost view = { λ s. record { job = s.job; marks = s.marks; ranks = s.ranks; whole = s.whole } };
 
-    ghost invariant = { λ s. AreSprouts (record { job = s.job; marks = s.marks }) };
+    ghost invariant = { λ s. AreSprouts (record {
+      job = s.job;
+      marks = s.marks;
+      ranks = s.ranks;
+      whole = s.whole;
+    }) };
 }
 
 impl<'p> Sprouts<'p> {
-    /// The sprouts of a job: exactly the marks that make its word a live word, in order. It takes
-    /// no memory.
-    pub fn new(job: Job<'p>, marks: List<Mark>) -> Sprouts<'p>
-        requires { AreSprouts (record { job = job; marks = marks }) }
+    /// The sprouts of a job: exactly the marks that make its word a live word, in order, the ranks
+    /// of these words, and whether the word may be a whole plan's. It takes no memory.
+    pub fn new(job: Job<'p>, marks: List<Mark>, ranks: List<u32>, whole: bool) -> Sprouts<'p>
+        requires { AreSprouts (record { job = job; marks = marks; ranks = ranks; whole = whole }) }
         ensures job { result.job ≡ job.entry }
         ensures marks { result.marks ≡ marks }
     {
-        Sprouts { job, marks }
+        Sprouts {
+            job,
+            marks,
+            ranks,
+            whole,
+        }
     }
 
     /// The id of the job's node.
@@ -144,6 +157,13 @@ impl<'p> Sprouts<'p> {
         ensures { result ≡ self.now.job.id }
     {
         self.job.id()
+    }
+
+    /// The word of the job's node.
+    pub fn word(&self) -> &[Mark]
+        ensures { result.now ≡ self.now.job.node.word }
+    {
+        self.job.node().word()
     }
 
     /// The marks: exactly those that make the job's word a live word, in order.
@@ -154,11 +174,30 @@ impl<'p> Sprouts<'p> {
         self.marks.as_slice()
     }
 
+    /// The ranks of the longer words, one for each mark.
+    pub fn ranks(&self) -> &[u32]
+        ensures { result.now ≡ self.now.ranks }
+    {
+        self.ranks.as_slice()
+    }
+
+    /// Whether the word may be a whole plan's.
+    pub fn is_whole(&self) -> bool
+        ensures { result ≡ self.now.whole }
+    {
+        self.whole
+    }
+
     /// The marks alone.
     pub fn into_marks(self) -> List<Mark>
         ensures { result ≡ self.entry.marks }
     {
-        let Sprouts { job: _, marks } = self;
+        let Sprouts {
+            job: _,
+            marks,
+            ranks: _,
+            whole: _,
+        } = self;
         marks
     }
 }

@@ -1,4 +1,4 @@
-ghost use Rattle.std.specs.Prelude.{◌≡◌, ◌≤◌, ◌+◌, ◌<◌, [], ◌∷◌, ◌++◌, IfOk, IfErr, OnOk, OnErr, vec_len, vec_capacity, true, false};
+ghost use Rattle.std.specs.Prelude.{◌≡◌, ◌≤◌, ◌+◌, ◌<◌, ◌^◌, [], ◌∷◌, ◌++◌, length, IfOk, IfErr, OnOk, OnErr, vec_len, vec_capacity, true, false};
 ghost use Rattle.tp_world.specs.Counts.{one_more};
 ghost use Rattle.open_tree.specs.Charter.{SameCharter};
 ghost use Rattle.open_tree.specs.Room.{HasRoom};
@@ -7,33 +7,31 @@ ghost use Rattle.open_tree.specs.Answers.{GivesTaken, GivesMerged, MakesMove, is
 ghost use Rattle.open_tree.specs.Jobs.{IsJobOf};
 ghost use Rattle.open_tree.specs.Stands.{CoversAll, IsRoot};
 ghost use Rattle.open_tree.specs.Steps.{IsReady, IsStep, DoesStep};
-ghost use Rattle.open_tree.specs.PlainTables.{AreTables};
-ghost use Rattle.open_tree.specs.Nodes.{GivesLeast};
-ghost use Rattle.tp_spec.specs.Machine.{IsWholeRun, state_of, rank};
-ghost use Rattle.tp_spec.specs.WellFormed.{IsWellFormed};
-ghost use Rattle.tp_spec.specs.Plain.{is_plain};
+ghost use Rattle.tp_laws.specs.Plans.{is_whole};
+ghost use Rattle.tp_spec.specs.Machine.{IsWholeRun, state_of};
+ghost use Rattle.tp_spec.specs.Schedules.{Live};
+ghost use Rattle.word_frontier.specs.Nodes.{GivesLeast};
+ghost use Rattle.word_network.specs.Conditions.{AreLimits};
+ghost use Rattle.word_network.specs.Schedules.{IsEarliest};
 
-use crate::frontier::Frontier;
 use crate::job::{Job, Merged, Sprouts, Taken};
-use crate::node::Node;
-use crate::plain::{PlainActions, PlainWalk};
-use crate::steps::{children_of, earliest_plan};
+use node_state::root_rank;
 use std::alloc::Global;
 use std::marker::Model;
 use std::snapshot::Snapshot;
-use tp_spec::{Cause, Event, Limits, List, NoMemory, Plan, Problem};
+use tp_spec::{Cause, Event, Limits, List, Mark, NoMemory, Plan, Problem};
 use tp_world::Clock;
+use word_frontier::{Frontier, Node};
+use word_network::earliest_plan;
 
-/// The tree of words that are tried on a plain problem, with the clock that each turn reads once
-/// and the history of all turns. The history is always a run of the situated machine that ends
-/// settled.
+/// The tree of words that are tried on a problem, with the clock that each turn reads once and the
+/// history of all turns. The history is always a run of the situated machine that ends settled.
 #[derive(Drop)]
 pub struct Tree<'p, C: Clock> {
     alloc: Global,
     problem: &'p Problem,
     limits: Limits,
     clock: C,
-    actions: PlainActions,
     frontier: Frontier,
     history: Vec<Event>,
     over: bool,
@@ -45,7 +43,7 @@ impl<'p, C: Clock> Model for Tree<'p, C> {
     ghost use Rattle.open_tree.specs.Views.{TreeView};
     ghost use Rattle.open_tree.specs.Keeps.{Keeps};
     ghost use Rattle.open_tree.specs.Stands.{Stands};
-    ghost use Rattle.std.specs.Prelude.{◌≡◌, vec_len, vec_capacity};
+    ghost use Rattle.std.specs.Prelude.{◌≡◌, ◌<◌, length, vec_len, vec_capacity};
     ghost use Rattle.tp_spec.specs.contracts.expr.Expr as expr;
     ghost use Rattle.std.specs.Coded.{codes};
 
@@ -76,8 +74,9 @@ impl<'p, C: Clock> Model for Tree<'p, C> {
       over = t.over;
       spare = t.spare;
     })
-        × Stands t.problem.now t.limits t.actions t.frontier t.history.items
-        × (C.begun t.clock ≡ C.begun t.opened.value) };
+        × Stands t.problem.now t.limits t.frontier t.history.items
+        × (C.begun t.clock ≡ C.begun t.opened.value)
+        × (length t.problem.now.goal < t.frontier.ranks) };
 }
 
 /// What a merge is going to do, with all the memory that it takes.
@@ -86,12 +85,12 @@ enum Step {
     Stale,
     Publish(Plan),
     Limit { made: u32, marks: u32 },
-    Expand(Vec<Node>),
+    Expand,
 }
 
 impl<'p, C: Clock> Tree<'p, C> {
     /// The tree of the empty word, which nobody took. The clock has the problem's rate, and the
-    /// problem is plain. Where memory is refused the clock comes back.
+    /// limits are such as a command line gives. Where memory is refused the clock comes back.
     pub fn new(
         alloc: Global,
         problem: &'p Problem,
@@ -99,7 +98,7 @@ impl<'p, C: Clock> Tree<'p, C> {
         clock: C,
     ) -> Result<Tree<'p, C>, (NoMemory, C)>
         requires rate { C.rate clock ≡ problem.now.scale }
-        requires plain { is_plain problem.now ≡ true }
+        requires limits { AreLimits limits }
         ensures history { IfOk result (λ t. t.history ≡ []) }
         ensures problem { IfOk result (λ t. t.problem ≡ problem.now) }
         ensures limits { IfOk result (λ t. t.limits ≡ limits) }
@@ -113,8 +112,8 @@ impl<'p, C: Clock> Tree<'p, C> {
             Ok(history) => history,
             Err(NoMemory) => return Err((NoMemory, clock)),
         };
-        let (actions, frontier) = match root_of(alloc, problem) {
-            Ok(parts) => parts,
+        let frontier = match root_of(alloc, problem) {
+            Ok(frontier) => frontier,
             Err(NoMemory) => return Err((NoMemory, clock)),
         };
         Ok(Tree {
@@ -122,7 +121,6 @@ impl<'p, C: Clock> Tree<'p, C> {
             problem,
             limits,
             clock,
-            actions,
             frontier,
             history,
             over: false,
@@ -179,11 +177,11 @@ impl<'p, C: Clock> Tree<'p, C> {
         }
     }
 
-    /// One turn in which an actor hands in the sprouts of a job that it took. A node that spells a
-    /// plan is published, one whose marks would give too many ids is the limit, every other one is
-    /// expanded; where that leaves no node, the search is exhausted. Over exactly where an outcome
-    /// stands at return, else stale exactly where the node had left the frontier. Where memory is
-    /// refused the turn is one halt, and the sprouts come back.
+    /// One turn in which an actor hands in the sprouts of a job that it took. A node whose word may
+    /// be a whole plan's is published, one whose marks would give too many ids is the limit, every
+    /// other one is expanded; where that leaves no node, the search is exhausted. Over exactly
+    /// where an outcome stands at return, else stale exactly where the node had left the frontier.
+    /// Where memory is refused the turn is one halt, and the sprouts come back.
     pub fn merge(
         &mut self,
         actor: u32,
@@ -215,8 +213,7 @@ impl<'p, C: Clock> Tree<'p, C> {
         let prepared = prepare(
             self.alloc,
             self.problem,
-            self.limits.nodes,
-            &self.actions,
+            &self.limits,
             &mut self.frontier,
             &mut self.history,
             actor,
@@ -294,7 +291,6 @@ impl<'p, C: Clock> Tree<'p, C> {
             problem: _,
             limits: _,
             clock,
-            actions: _,
             frontier: _,
             history,
             over: _,
@@ -325,10 +321,10 @@ fn is_over(merged: Merged) -> bool
 
 /// Does to the frontier what was prepared, and tells the events of it.
 fn move_of(frontier: &mut Frontier, actor: u32, sprouts: Sprouts<'_>, step: Step) -> Move
-    requires { HasRoom sprouts.job.id frontier.old step }
+    requires { HasRoom actor sprouts frontier.old step }
     ensures events { MakesMove actor sprouts.entry result }
-    ensures does { DoesStep actor sprouts.entry.job.id sprouts.entry.marks frontier.old frontier.new
-        result step }
+    ensures does { DoesStep actor sprouts.entry frontier.old frontier.new result step }
+    ensures ranks { frontier.new.ranks ≡ frontier.old.ranks }
 {
     let id = sprouts.id();
     match step {
@@ -352,10 +348,10 @@ fn move_of(frontier: &mut Frontier, actor: u32, sprouts: Sprouts<'_>, step: Step
             end: None,
             merged: Merged::Over,
         },
-        Step::Expand(children) => {
+        Step::Expand => {
+            frontier.expand(id, actor, sprouts.marks(), sprouts.ranks());
             let marks = sprouts.into_marks();
             let deed = Some(Event::Expand { actor, id, marks });
-            frontier.expand(id, children);
             if frontier.is_empty() {
                 Move {
                     deed,
@@ -414,23 +410,14 @@ fn empty_history(alloc: Global) -> Result<Vec<Event>, NoMemory>
     }
 }
 
-/// The tables of a problem's actions, and the frontier of its root.
-fn root_of(alloc: Global, problem: &Problem) -> Result<(PlainActions, Frontier), NoMemory>
-    ensures { is_plain problem.now ≡ true → IfOk result (λ r. IsRoot problem.now r.0 r.1) }
+/// The frontier of a problem's root.
+fn root_of(alloc: Global, problem: &Problem) -> Result<Frontier, NoMemory>
+    ensures { IfOk result (IsRoot problem.now) }
 {
-    let actions = PlainActions::of(alloc, problem)?;
-    let rank = root_rank(alloc, &actions, problem)?;
-    let frontier = Frontier::root(alloc, rank)?;
-    Ok((actions, frontier))
-}
-
-/// How many goal parts do not hold at the start.
-fn root_rank(alloc: Global, actions: &PlainActions, problem: &Problem) -> Result<u32, NoMemory>
-    ensures { is_plain problem.now ≡ true → AreTables problem.now actions.now
-        → IfOk result (λ n. IsWellFormed problem.now × (n ≡ rank problem.now [])) }
-{
-    let walk = PlainWalk::at_start(alloc, actions, problem)?;
-    Ok(walk.unmet(problem.goal.as_slice()))
+    problem.keeps_the_rules();
+    let rank = root_rank(alloc, problem)?;
+    let frontier = Frontier::root(alloc, problem.goal.as_slice().len() + 1, rank)?;
+    Ok(frontier)
 }
 
 /// Makes room for a turn and a halt, and copies the least open node.
@@ -455,20 +442,18 @@ fn choose(
 fn prepare(
     alloc: Global,
     problem: &Problem,
-    nodes: u32,
-    actions: &PlainActions,
+    limits: &Limits,
     frontier: &mut Frontier,
     history: &mut Vec<Event>,
     actor: u32,
     sprouts: &Sprouts<'_>,
 ) -> Result<Step, NoMemory>
-    requires { IsReady problem.now nodes actions.now frontier.old actor sprouts.now.job.id
-        sprouts.now.marks }
-    ensures step { IfOk result (IsStep problem.now nodes frontier.old actor sprouts.now.job.id
-        sprouts.now.marks) }
-    ensures roomy { IfOk result (HasRoom sprouts.now.job.id frontier.new) }
+    requires { IsReady problem.now limits.now frontier.old actor sprouts.now }
+    ensures step { IfOk result (IsStep problem.now limits.now frontier.old actor sprouts.now) }
+    ensures roomy { IfOk result (HasRoom actor sprouts.now frontier.new) }
     ensures nodes { frontier.new.nodes ≡ frontier.old.nodes }
     ensures made { frontier.new.made ≡ frontier.old.made }
+    ensures ranks { frontier.new.ranks ≡ frontier.old.ranks }
     ensures items { history.new.items ≡ history.old.items }
     ensures room { OnOk result (vec_len history.new + 4 ≤ vec_capacity history.new) }
     ensures kept_room { vec_capacity history.old ≤ vec_capacity history.new }
@@ -477,21 +462,39 @@ fn prepare(
         Ok(()) => {}
         Err(_) => return Err(NoMemory),
     }
-    let marks = sprouts.marks();
-    let Some(node) = frontier.taken(sprouts.id(), actor) else {
+    if !frontier.is_taken(sprouts.id(), actor) {
         return Ok(Step::Stale);
-    };
-    if node.rank() == 0 {
-        let plan = earliest_plan(alloc, node.word())?;
+    }
+    if sprouts.is_whole() {
+        let plan = plan_of_word(alloc, problem, limits, sprouts.word())?;
         return Ok(Step::Publish(plan));
     }
-    if frontier.made().saturating_add(marks.len()) > nodes as usize {
+    let marks = sprouts.marks().len();
+    if (frontier.made() as usize).saturating_add(marks) > limits.nodes as usize {
         return Ok(Step::Limit {
-            made: frontier.made() as u32,
-            marks: marks.len() as u32,
+            made: frontier.made(),
+            marks: marks as u32,
         });
     }
-    let children = children_of(alloc, actions, problem, node.word(), marks)?;
-    frontier.reserve(children.len())?;
-    Ok(Step::Expand(children))
+    frontier.reserve(marks)?;
+    Ok(Step::Expand)
+}
+
+/// The plan of the least schedule of a live word that may be a whole plan's.
+fn plan_of_word(
+    alloc: Global,
+    problem: &Problem,
+    limits: &Limits,
+    word: &[Mark],
+) -> Result<Plan, NoMemory>
+    requires limits { AreLimits limits.now }
+    requires live { Live problem.now limits.now 0 [] word.now }
+    requires few { length word.now < 2 ^ 31 }
+    requires whole { is_whole problem.now word.now ≡ true }
+    ensures { IfOk result (IsEarliest problem.now limits.now 0 [] word.now) }
+{
+    match earliest_plan(alloc, problem, limits, word, &[], 0)? {
+        Some(plan) => Ok(plan),
+        None => unreachable!(),
+    }
 }

@@ -3,9 +3,9 @@ use Rattle.std.proofs.Common.{◌≡◌, ◌∙◌, refl, sym, ap, subst, ℕ, i
 use Rattle.std.specs.Prelude.{IsErr, IsErrAnd, IfErr}
 use Rattle.tp_world.specs.Contents.{Contents, FilesView}
 use Rattle.tp_world.specs.Counts.{Rose}
-use Rattle.tp_world.specs.Loads.{Wanted, Holds, HoldsTooMany, AllHold, AsksFor, AreLoaded, StopsAt, IsTooLongAt, FailsAt, AsksFront, load_of}
+use Rattle.tp_world.specs.Loads.{Wanted, HoldsTooMany, AllHold, AsksFor, AreLoaded, StopsAt, AsksFront, load_of}
 use Rattle.tp_world.specs.Requests.{Request, Load}
-use Rattle.run_cli.specs.Stopping.{IsTooLong, IsUnloaded, IsStopped, IsStop, too_long_line, failed_line}
+use Rattle.run_cli.specs.Stopping.{IsStopped, IsStop, too_long_line, failed_line}
 use Rattle.run_cli.specs.declared.loading.Stop.{Stop}
 use Rattle.run_cli.specs.declared.loading.Stop.TheVariants.{Said, NoMemory}
 

@@ -1,11 +1,9 @@
-pub mod OneWorker
-pub mod OneJob
 pub mod Solved
 pub mod FirstLoads
 pub mod Stopping
 pub mod Outcomes
-pub mod LiveMarks
 pub mod Bounded
 pub mod Numerals
 pub mod Dashes
 pub mod FirstFaults
+pub mod Ranges

@@ -16,7 +16,7 @@ use Rattle.tp_world.specs.Readings.{AreNext}
 use Rattle.open_tree.specs.Charter.{SameCharter}
 use Rattle.open_tree.specs.Turns.{IsTold}
 use Rattle.open_tree.specs.Views.{TreeView}
-use Rattle.run_cli.specs.OneWorker.{HasSearched}
+use Rattle.search_workers.specs.OneWorker.{HasSearched}
 use Rattle.tp_world.specs.Sinks.{SinkView}
 use Rattle.tp_world.specs.Views.{ClockView}
 use Rattle.run_cli.specs.Outcomes.{status_of, EndsAs, HasNoResult, HasStopped, PrintsResult}

@@ -10,19 +10,18 @@ use Rattle.tp_world.specs.Views.{Outside, ClockView}
 use Rattle.tp_spec.specs.declared.fault.LineFault.{LineFault}
 use Rattle.tp_spec.specs.declared.fault.LineFault.TheVariants as line_faults
 use Rattle.run_cli.specs.Orders.{Answers, fault_text, is_memory}
-use Rattle.run_cli.specs.Plainness.{IsFaultyText, TellsWhy}
+use Rattle.run_cli.specs.Untimed.{IsFaultyText, TellsWhy}
 use Rattle.run_cli.specs.Printing.{Prints, PrintsNothing}
-use Rattle.run_cli.specs.Solving.{IsUnsearched, IsPlainStop, EndsBefore, SaysWhy}
-use Rattle.run_cli.specs.Statuses.{EndsRefused, EndsLocal, EndsRun, EndsValidate}
+use Rattle.run_cli.specs.Solving.{IsUnsearched, IsUntimedStop, EndsBefore}
+use Rattle.run_cli.specs.Statuses.{EndsLocal, EndsRun, EndsValidate}
 use Rattle.run_cli.specs.Runs.{EndingView, IsIdle}
-use Rattle.run_cli.specs.Stopping.{IsStop, plain_line, ground_file, ground_and_plan}
+use Rattle.run_cli.specs.Stopping.{IsStop, untimed_line, ground_file, ground_and_plan}
 use Rattle.run_cli.specs.Validating.{RefusesGround, IsAnswer}
 use Rattle.run_cli.specs.VerdictTexts.{ground_line}
-use Rattle.run_cli.specs.declared.answer.Answer.{Answer}
 use Rattle.run_cli.specs.declared.loading.Stop.{Stop}
 use Rattle.run_cli.specs.declared.loading.Stop.TheVariants.{Said, NoMemory}
-use Rattle.run_cli.specs.declared.reader.PlainFault.{PlainFault}
-use Rattle.run_cli.specs.declared.reader.PlainFault.TheVariants.{NotBuilt, Refused}
+use Rattle.run_cli.specs.declared.reader.UntimedFault.{UntimedFault}
+use Rattle.run_cli.specs.declared.reader.UntimedFault.TheVariants.{NotBuilt, Refused}
 use Rattle.run_cli.specs.declared.words.Order.{Order}
 use Rattle.run_cli.specs.declared.words.Order.TheVariants.{Solve, Validate}
 use Rattle.run_cli.specs.declared.words.WordFault.{WordFault}
@@ -51,18 +50,18 @@ refuses_ground text line (line_faults.Line number) why says = record {
 }
 refuses_ground text line line_faults.NoMemory why says = absurd (false≢true (ap is_there says))
 
--- a file is loaded, its text gives no plain problem, and the line says so
-pub unsearched-of : (file : Wanted) (text line : List ℕ) (fault : PlainFault) (before after : FilesView) (status : ℕ) → AreLoaded (file ∷ []) (text ∷ []) before after
-    → TellsWhy text fault → status ≡ 4 → plain_line fault ≡ Some line → IsUnsearched file before after status line
+-- a file is loaded, its text gives no problem without timed items, and the line says so
+pub unsearched-of : (file : Wanted) (text line : List ℕ) (fault : UntimedFault) (before after : FilesView) (status : ℕ) → AreLoaded (file ∷ []) (text ∷ []) before after
+    → TellsWhy text fault → status ≡ 4 → untimed_line fault ≡ Some line → IsUnsearched file before after status line
 unsearched-of file text line NotBuilt before after status loaded why is says =
     inr (inl (record { text = text; loaded = loaded; unbuilt = why; status_is = is; line_is = ap (line_or []) (sym says) }))
 unsearched-of file text line (Refused fault) before after status loaded why is says =
     inr (inr (record { text = text; loaded = loaded; refuses = refuses_ground text line fault why says; status_is = is }))
 
 -- the file is not loaded
-pub plain-stop : (file : Wanted) (before after : FilesView) (s : Stop) → IsStop (file ∷ []) before after s → IsPlainStop file before after s
-plain-stop file before after (Said answer) why = inl why
-plain-stop file before after NoMemory why = why
+pub untimed-stop : (file : Wanted) (before after : FilesView) (s : Stop) → IsStop (file ∷ []) before after s → IsUntimedStop file before after s
+untimed-stop file before after (Said answer) why = inl why
+untimed-stop file before after NoMemory why = why
 
 unsearched-front : (file : Wanted) (before after : FilesView) (status : ℕ) (line : List ℕ) → IsUnsearched file before after status line → AsksFront (file ∷ []) before after
 unsearched-front file before after status line (inl w) = stopped-front w

@@ -1,15 +1,14 @@
 -- What the words behind the command say, one after the other: files, options with their values, and
 -- what is neither.
-use Rattle.std.specs.Prelude.{ℕ, ◌+◌, ◌==◌, Bool, true, false, ◌&&◌, nat_eq, if◌then◌else◌, List, [], ◌∷◌, ◌++◌, length, bytes_eq, Option, Some, None}
+use Rattle.std.specs.Prelude.{ℕ, ◌+◌, ◌==◌, Bool, false, nat_eq, if◌then◌else◌, List, [], ◌∷◌, ◌++◌, length, Option, Some, None}
 use Rattle.std.specs.List.{before_first, after_first, position_or_len}
-use Rattle.run_cli.specs.declared.options.Command.{Command}
 use Rattle.run_cli.specs.declared.options.Setting.{Setting}
 use Rattle.run_cli.specs.declared.arguments.Argument.{Argument as Held}
 use Rattle.run_cli.specs.declared.arguments.Argument.TheVariants as held
 use Rattle.run_cli.specs.declared.arguments.Sort.{Sort as HeldSort}
 use Rattle.run_cli.specs.declared.arguments.Sort.TheVariants as sorts
 use Rattle.run_cli.specs.declared.arguments.Awaited.{Awaited}
-use Rattle.run_cli.specs.Options.{options_of, option_named}
+use Rattle.run_cli.specs.Options.{option_named}
 
 -- whether a word begins with `-`
 abbrev pub begins_with_dash : List ℕ → Bool

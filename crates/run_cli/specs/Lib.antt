@@ -1,9 +1,8 @@
 pub mod Arguments
-pub mod OneWorker
 pub mod Options
 pub mod Orders
 pub mod Outcomes
-pub mod Plainness
+pub mod Untimed
 pub mod Printing
 pub mod Runs
 pub mod Solving

@@ -1,11 +1,11 @@
 -- How a history ends, and the status of the program for it.
 use Rattle.std.specs.Prelude.{◌≡◌, ◌<◌, ◌⊎◌, ℕ, List, [], ◌∷◌, ◌++◌}
-use Rattle.tp_spec.specs.declared.event.Cause.TheVariants.{Memory}
 use Rattle.tp_spec.specs.declared.event.Event.{Event}
-use Rattle.tp_spec.specs.declared.event.Event.TheVariants.{Publish, Limit, Exhaust, Halt}
+use Rattle.tp_spec.specs.declared.event.Event.TheVariants.{Publish, Limit, Exhaust}
 use Rattle.tp_spec.specs.declared.problem.Problem.{Problem}
 use Rattle.tp_spec.specs.Texts.{result_text}
 use Rattle.tp_world.specs.Sinks.{SinkView}
+use Rattle.search_workers.specs.Endings.{HasResult, IsHalted}
 use Rattle.run_cli.specs.Printing.{Prints}
 
 -- the status for an event that ends a search: 0 for a plan, 1 where the search is exhausted, 2 at
@@ -23,21 +23,10 @@ pub record EndsAs (history : List Event) (status : ℕ) : Type 0 where
   pub is : history ≡ front ++ last ∷ []
   pub gives : status ≡ status_of last
 
--- the last event is a result: a plan, that the search is exhausted, or the limit
-pub record HasResult (history : List Event) : Type 0 where
-  pub status : ℕ
-  pub below : status < 3
-  pub ends : EndsAs history status
-
 -- the last event is no result
 abbrev pub HasNoResult : List Event → Type 0
 HasNoResult history =
     (front : List Event) (last : Event) → history ≡ front ++ last ∷ [] → status_of last ≡ 7
-
--- the run was halted, since memory was refused
-pub record IsHalted (history : List Event) : Type 0 where
-  pub front : List Event
-  pub is : history ≡ front ++ Halt Memory ∷ []
 
 -- a history that ends with a result, or that was halted
 abbrev pub HasStopped : List Event → Type 0

@@ -10,7 +10,7 @@ use Rattle.tp_world.specs.Loads.{Wanted, AreLoaded, AsksFront}
 use Rattle.tp_world.specs.Sinks.{SinkView}
 use Rattle.tp_world.specs.Views.{Outside}
 use Rattle.run_cli.specs.Outcomes.{EndsAs, HasStopped}
-use Rattle.run_cli.specs.Plainness.{IsPlainText, IsUnbuiltText}
+use Rattle.run_cli.specs.Untimed.{IsUntimedText, IsUnbuiltText}
 use Rattle.run_cli.specs.Printing.{Prints, PrintsNothing}
 use Rattle.run_cli.specs.Runs.{EndingView, HasReadings, IsBegun, IsIdle}
 use Rattle.run_cli.specs.Stopping.{IsStopped}
@@ -18,11 +18,11 @@ use Rattle.run_cli.specs.Validating.{RefusesGround}
 use Rattle.run_cli.specs.declared.loading.Stop.{Stop}
 use Rattle.run_cli.specs.declared.loading.Stop.TheVariants.{Said, NoMemory}
 
--- a file is loaded, and it is a plain problem's text
-pub record HoldsPlain (file : Wanted) (p : Problem) (before after : FilesView) : Type 0 where
+-- a file is loaded, and it is the text of a problem without timed items
+pub record HoldsUntimed (file : Wanted) (p : Problem) (before after : FilesView) : Type 0 where
   pub text : List ℕ
   pub loaded : AreLoaded (file ∷ []) (text ∷ []) before after
-  pub read : IsPlainText text p
+  pub read : IsUntimedText text p
 
 -- A search of a problem that ends with the result of this status, 0, 1 or 2: its history is a whole
 -- run, busy for the one worker, and ends with that result; the clock was begun with its scale.
@@ -51,19 +51,19 @@ pub record IsHalfSolved (p : Problem) (l : Limits) (before after : SinkView) (en
   pub stopped : (ending.history ≡ []) ⊎ HasStopped ending.history
   pub printed : PrintsNothing before after ending.status
 
--- how a search of a plain problem ends
+-- how a search ends
 abbrev pub EndsSearch : Problem → Limits → SinkView → SinkView → EndingView → Type 0
 EndsSearch p l before after ending =
     Solves p l before after ending ⊎ IsHalfSolved p l before after ending
 
--- the file is a plain problem's text, and the problem is searched
+-- the file is the text of a problem without timed items, which is searched
 pub record IsSearched (file : Wanted) (l : Limits) (before after : Outside) (ending : EndingView) :
     Type 0 where
   pub problem : Problem
-  pub holds : HoldsPlain file problem before.files after.files
+  pub holds : HoldsUntimed file problem before.files after.files
   pub ends : EndsSearch problem l before.sink after.sink ending
 
--- the file is the text of a problem that is not plain
+-- the file is the text of a problem with a timed item
 pub record IsNotBuilt (file : Wanted) (before after : FilesView) (status : ℕ) (line : List ℕ) :
     Type 0 where
   pub text : List ℕ
@@ -87,10 +87,10 @@ IsUnsearched file before after status line =
     ⊎ (IsNotBuilt file before after status line ⊎ IsNoText file before after status line)
 
 -- why nothing is searched; where memory was refused, a front of the file's loads was asked for
-abbrev pub IsPlainStop : Wanted → FilesView → FilesView → Stop → Type 0
-IsPlainStop file before after (Said answer) =
+abbrev pub IsUntimedStop : Wanted → FilesView → FilesView → Stop → Type 0
+IsUntimedStop file before after (Said answer) =
     IsUnsearched file before after answer.status answer.line.items
-IsPlainStop file before after NoMemory = AsksFront (file ∷ []) before after
+IsUntimedStop file before after NoMemory = AsksFront (file ∷ []) before after
 
 -- nothing is searched, and the line that says why is put
 pub record SaysWhy (file : Wanted) (before after : Outside) (status : ℕ) : Type 0 where
@@ -116,10 +116,10 @@ EndsSolve file l before after ending =
     IsSearched file l before after ending
     ⊎ (EndsBefore file before after ending.status × IsIdle ending)
 
--- the file is a plain problem's text, and nothing is put: 3
+-- the file is the text of a problem without timed items, and nothing is put: 3
 pub record IsLeft (file : Wanted) (before after : Outside) (status : ℕ) : Type 0 where
   pub problem : Problem
-  pub holds : HoldsPlain file problem before.files after.files
+  pub holds : HoldsUntimed file problem before.files after.files
   pub status_is : status ≡ 3
   pub unput : after.sink ≡ before.sink
 

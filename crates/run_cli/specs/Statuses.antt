@@ -1,5 +1,5 @@
 -- What a run gives: of its words, and of its command.
-use Rattle.std.specs.Prelude.{◌≡◌, ◌⊎◌, ℕ, List, [], ◌∷◌, Result, Ok, Err}
+use Rattle.std.specs.Prelude.{◌≡◌, ◌⊎◌, ℕ, List, Result, Ok, Err}
 use Rattle.tp_spec.specs.declared.plan.Limits.{Limits}
 use Rattle.tp_world.specs.Loads.{Wanted}
 use Rattle.tp_world.specs.Views.{Outside}

@@ -7,8 +7,8 @@ use Rattle.run_cli.specs.declared.loading.Role.{Role}
 use Rattle.run_cli.specs.declared.loading.Role.TheVariants.{GroundText, PlanFile}
 use Rattle.run_cli.specs.declared.loading.Stop.{Stop}
 use Rattle.run_cli.specs.declared.loading.Stop.TheVariants.{Said, NoMemory}
-use Rattle.run_cli.specs.declared.reader.PlainFault.{PlainFault}
-use Rattle.run_cli.specs.declared.reader.PlainFault.TheVariants.{NotBuilt, Refused}
+use Rattle.run_cli.specs.declared.reader.UntimedFault.{UntimedFault}
+use Rattle.run_cli.specs.declared.reader.UntimedFault.TheVariants.{NotBuilt, Refused}
 
 abbrev pub role_name : Role → List ℕ
 role_name GroundText = codes "ground"
@@ -61,7 +61,7 @@ IsStop files before after (Said answer) =
     IsStopped files before after answer.status answer.line.items
 IsStop files before after NoMemory = AsksFront files before after
 
--- the line for a text that gives no plain problem; none where memory is refused
-abbrev pub plain_line : PlainFault → Option (List ℕ)
-plain_line NotBuilt = Some (codes "refused ground 0 NotBuilt\n")
-plain_line (Refused fault) = ground_line fault
+-- the line for a text that gives no problem without timed items; none where memory is refused
+abbrev pub untimed_line : UntimedFault → Option (List ℕ)
+untimed_line NotBuilt = Some (codes "refused ground 0 NotBuilt\n")
+untimed_line (Refused fault) = ground_line fault

@@ -77,7 +77,7 @@ pub fn run<F: Files, O: Sink + Send, C: Clock + Send, G: Gate>(
 
 /// Does what the words say as `run` does, but waits for nobody: every command but `solve`. `solve`
 /// reads its file as `run` does, with the same statuses and lines for a file that is refused or
-/// can't be loaded; where the file is a plain problem's text nothing is put, and the status is 3.
+/// can't be loaded; where its problem has no timed items nothing is put, and the status is 3.
 pub fn run_local<F: Files, O: Sink, C: Clock>(
     alloc: Global,
     words: &[String],

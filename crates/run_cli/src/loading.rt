@@ -1,10 +1,10 @@
 ghost use Rattle.std.specs.Prelude.{◌≡◌, [], ◌∷◌, IfOk, IfErr, codes};
 ghost use Rattle.tp_world.specs.Loads.{AreLoaded};
-ghost use Rattle.run_cli.specs.Solving.{HoldsPlain, IsPlainStop};
-ghost use Rattle.run_cli.specs.Stopping.{IsStop, role_name, file_of, ground_file, ground_and_plan, failed_line, too_long_line, plain_line};
+ghost use Rattle.run_cli.specs.Solving.{HoldsUntimed, IsUntimedStop};
+ghost use Rattle.run_cli.specs.Stopping.{IsStop, role_name, file_of, ground_file, ground_and_plan, failed_line, too_long_line, untimed_line};
 
 use crate::answer::Answer;
-use crate::reader::{PlainFault, read_plain};
+use crate::reader::{UntimedFault, read_untimed};
 use crate::verdicts::ground_line;
 use line_text::{push_bytes, push_number};
 use std::alloc::Global;
@@ -117,16 +117,16 @@ pub fn load_both<F: Files>(
     Ok((text, bytes))
 }
 
-/// Loads and reads a ground text; the plain problem that it is of.
-pub fn load_plain<F: Files>(alloc: Global, name: &str, files: &mut F) -> Result<Problem, Stop>
-    ensures plain { IfOk result (λ p. HoldsPlain (ground_file name.now) p (F.view files.old)
+/// Loads and reads a ground text; the problem without timed items that it is of.
+pub fn load_untimed<F: Files>(alloc: Global, name: &str, files: &mut F) -> Result<Problem, Stop>
+    ensures holds { IfOk result (λ p. HoldsUntimed (ground_file name.now) p (F.view files.old)
         (F.view files.new)) }
-    ensures stop { IfErr result (IsPlainStop (ground_file name.now) (F.view files.old)
+    ensures stop { IfErr result (IsUntimedStop (ground_file name.now) (F.view files.old)
         (F.view files.new)) }
     ensures contents { (F.view files.new).contents ≡ (F.view files.old).contents }
 {
     let text = load(alloc, Role::GroundText, name, files)?;
-    match read_plain(alloc, &text) {
+    match read_untimed(alloc, &text) {
         Ok(problem) => Ok(problem),
         Err(fault) => Err(Stop::Said {
             answer: refusal(alloc, fault)?,
@@ -134,13 +134,13 @@ pub fn load_plain<F: Files>(alloc: Global, name: &str, files: &mut F) -> Result<
     }
 }
 
-/// What is said of a text that gives no plain problem.
-fn refusal(alloc: Global, fault: PlainFault) -> Result<Answer, NoMemory>
-    ensures { IfOk result (λ a. (a.status ≡ 4) × (plain_line fault ≡ Some a.line.items)) }
+/// What is said of a text that gives no problem without timed items.
+fn refusal(alloc: Global, fault: UntimedFault) -> Result<Answer, NoMemory>
+    ensures { IfOk result (λ a. (a.status ≡ 4) × (untimed_line fault ≡ Some a.line.items)) }
 {
     let line = match fault {
-        PlainFault::NotBuilt => not_built_line(alloc)?,
-        PlainFault::Refused { fault } => ground_line(alloc, fault)?,
+        UntimedFault::NotBuilt => not_built_line(alloc)?,
+        UntimedFault::Refused { fault } => ground_line(alloc, fault)?,
     };
     Ok(Answer { status: 4, line })
 }

@@ -1,15 +1,16 @@
 ghost use Rattle.std.specs.Prelude.{◌≡◌, ◌<◌, ◌⊎◌, [], MatchOption};
-ghost use Rattle.tp_laws.specs.Early.{IsPlain};
+ghost use Rattle.tp_spec.specs.WellFormed.{IsWellFormed};
+ghost use Rattle.word_network.specs.Conditions.{AreLimits};
 ghost use Rattle.run_cli.specs.Outcomes.{status_of, EndsAs, HasNoResult, PrintsResult};
 ghost use Rattle.run_cli.specs.Printing.{PrintsNothing};
 ghost use Rattle.run_cli.specs.Solving.{EndsSearch, EndsSolve, EndsUnsolved};
 ghost use Rattle.run_cli.specs.Stopping.{ground_file};
 
 use crate::ending::{Ending, put, say, unsearched};
-use crate::loading::{Stop, load_plain};
+use crate::loading::{Stop, load_untimed};
 use crate::printing::result_text;
-use crate::search::search;
 use open_tree::Tree;
+use search_workers::search;
 use std::alloc::Global;
 use tp_spec::{Event, Limits, NoMemory, Problem};
 use tp_world::{Clock, Files, Sink};
@@ -23,6 +24,7 @@ pub fn solve_file<F: Files, O: Sink, C: Clock>(
     out: &mut O,
     clock: C,
 ) -> Ending<C>
+    requires { AreLimits limits }
     ensures ends { EndsSolve (ground_file name.now) limits (record {
       files = F.view files.old;
       sink = O.view out.old;
@@ -47,15 +49,15 @@ pub fn solve_file<F: Files, O: Sink, C: Clock>(
     ensures contents { (F.view files.new).contents ≡ (F.view files.old).contents }
     ensures same { 2 < result.status → result.status < 6 → result.clock ≡ clock }
 {
-    match load_plain(alloc, name, files) {
+    match load_untimed(alloc, name, files) {
         Ok(problem) => solve(alloc, &problem, limits, out, clock),
         Err(Stop::Said { answer }) => say(alloc, out, answer, clock),
         Err(Stop::NoMemory) => unsearched(alloc, 7, clock),
     }
 }
 
-/// Loads and reads a ground text, and searches nothing. Where it is a plain problem's, nothing is
-/// put.
+/// Loads and reads a ground text, and searches nothing. Where its problem has no timed items,
+/// nothing is put.
 pub fn leave_file<F: Files, O: Sink, C: Clock>(
     alloc: Global,
     name: &str,
@@ -71,14 +73,14 @@ pub fn leave_file<F: Files, O: Sink, C: Clock>(
     ensures history { result.history.items ≡ [] }
     ensures clock { result.clock ≡ clock }
 {
-    match load_plain(alloc, name, files) {
+    match load_untimed(alloc, name, files) {
         Ok(_) => unsearched(alloc, 3, clock),
         Err(Stop::Said { answer }) => say(alloc, out, answer, clock),
         Err(Stop::NoMemory) => unsearched(alloc, 7, clock),
     }
 }
 
-/// Searches for a plan of a plain problem, and prints the result.
+/// Searches for a plan of a problem, and prints the result.
 fn solve<O: Sink, C: Clock>(
     alloc: Global,
     problem: &Problem,
@@ -86,7 +88,8 @@ fn solve<O: Sink, C: Clock>(
     out: &mut O,
     mut clock: C,
 ) -> Ending<C>
-    requires { IsPlain problem.now }
+    requires formed { IsWellFormed problem.now }
+    requires limits { AreLimits limits }
     ensures ends { EndsSearch problem.now limits (O.view out.old) (O.view out.new) (record {
       status = result.status;
       history = result.history.items;

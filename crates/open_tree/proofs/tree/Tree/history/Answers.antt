@@ -9,7 +9,7 @@ use Rattle.open_tree.proofs.tree.Tree.history.Goals as goal
 
 pub returns-clause-covered : goal.returns-clause-covered
 returns-clause-covered g c =
-    subst (λ (t : TreeView _). CoversAll t.problem t.limits (state_of t.limits t.history)) c.self.view_is (covers-all _ _ _ _ _ c.self.invariant.1)
+    subst (λ (t : TreeView _). CoversAll t.problem t.limits (state_of t.limits t.history)) c.self.view_is (covers-all _ _ _ _ c.self.invariant.1)
 
 pub returns-clause-clocked : goal.returns-clause-clocked
 returns-clause-clocked g c =

@@ -1,9 +1,0 @@
-use Rattle.std.proofs.Common.{◌∙◌, ap, eqb, not, get_or, ◌%◌, ◌^◌, ◌*◌, ◌/◌}
-use Rattle.std.specs.Prelude.{bit_and}
-use Rattle.open_tree.proofs.FactBits.{tested}
-use Rattle.open_tree.proofs.rows.FactRow.has.Goals as goal
-
-pub returns : goal.returns
-returns c =
-    ap (λ x. not (eqb (bit_and x (1 * 2 ^ (c.args.fact % 64) % 2 ^ 64)) 0)) (c.word_at.ensures ∙ ap (λ xs. get_or xs (c.args.fact / 64) 0) c.deref.ensures.value)
-    ∙ tested c.args.self.now.words.items c.args.fact

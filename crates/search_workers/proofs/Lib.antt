@@ -1,0 +1,3 @@
+pub mod OneWorker
+pub mod OneJob
+pub mod LiveMarks

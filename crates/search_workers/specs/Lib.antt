@@ -1,0 +1,3 @@
+pub mod Sprouting
+pub mod Endings
+pub mod OneWorker
