@@ -6,3 +6,4 @@ pub mod Growing
 pub mod Granting
 pub mod Leveling
 pub mod Bits
+pub mod Ranking

@@ -4,3 +4,4 @@ pub mod Readings
 pub mod Candidates
 pub mod Judges
 pub mod Levels
+pub mod Ranks

@@ -11,12 +11,14 @@ ghost use Rattle.tp_spec.specs.declared.plan.Item.TheVariants.{TimedAt, End, Sta
 ghost use Rattle.node_state.specs.Readings.{progress_of, IsClosed, IsReadingOf};
 ghost use Rattle.tp_spec.specs.Items.{number as number_of};
 ghost use Rattle.node_state.specs.Judges.{item_of, IsCover};
+ghost use Rattle.node_state.specs.Ranks.{unmet_before};
 ghost use Rattle.node_state.specs.Levels.{is_fresh_at, AreLevels, IsLevel};
 ghost use Rattle.node_state.specs.Founds.{ends_in_goal, unmet_with, Grew, TookMarks};
 
 use crate::asked::{goal_holds, unmet_in};
 use crate::growth::Growth;
 use crate::levels::{Level, descend};
+use crate::ranks::{free_facts, stay_in, unmet_by_effects};
 use crate::reading::Reading;
 use crate::wants::Wants;
 use snap_actions::{Items, interfere, items_of};
@@ -40,6 +42,7 @@ pub(crate) struct Judge<'p> {
     items: Items,
     wants: Wants,
     start: Reading,
+    free: BitRow,
 }
 
 impl<'p> Model for Judge<'p> {
@@ -54,7 +57,7 @@ impl<'p> Model for Judge<'p> {
 
     ghost view = { λ j. j.problem.now };
 
-    ghost invariant = { λ j. IsJudgeOf j.problem.now j.items j.wants j.start };
+    ghost invariant = { λ j. IsJudgeOf j.problem.now j.items j.wants j.start j.free };
 }
 
 impl<'p> Judge<'p> {
@@ -65,12 +68,14 @@ impl<'p> Judge<'p> {
         let items = items_of(alloc, problem)?;
         let wants = Wants::of(alloc, problem)?;
         let start = Reading::at_start(alloc, problem)?;
+        let free = free_facts(alloc, problem)?;
         Ok(Judge {
             alloc,
             problem,
             items,
             wants,
             start,
+            free,
         })
     }
 
@@ -203,14 +208,29 @@ impl<'p> Judge<'p> {
         ensures { OnOk result (Grew self.now (progress_of reading.now) fresh found.old found.new
             (all_items self.now)) }
     {
-        self.offer_timed(reading, fresh, found)?;
-        self.offer_ends(reading, fresh, found)?;
-        self.offer_starts(reading, fresh, found)
+        let unmet = self.unmet(reading);
+        self.offer_timed(reading, fresh, unmet, found)?;
+        self.offer_ends(reading, fresh, unmet, found)?;
+        self.offer_starts(reading, fresh, unmet, found)
+    }
+
+    /// How many goal parts do not hold before a word's last group.
+    fn unmet(&self, reading: &Reading) -> u32
+        ensures { result ≡ unmet_before self.now (progress_of reading.now) }
+    {
+        unmet_in(self.problem, &reading.before)
     }
 
     /// Takes in the mark of the next timed item, if that may join; no other one may.
-    fn offer_timed(&self, reading: &Reading, fresh: bool, found: &mut Found) -> Result<(), NoMemory>
-        requires { IsReadingOf self.now reading.now }
+    fn offer_timed(
+        &self,
+        reading: &Reading,
+        fresh: bool,
+        unmet: u32,
+        found: &mut Found,
+    ) -> Result<(), NoMemory>
+        requires reading { IsReadingOf self.now reading.now }
+        requires unmet { unmet ≡ unmet_before self.now (progress_of reading.now) }
         ensures { OnOk result (Grew self.now (progress_of reading.now) fresh found.old found.new
             (map TimedAt (range_with_len 0 (length self.now.timed)))) }
     {
@@ -218,16 +238,23 @@ impl<'p> Judge<'p> {
         if reading.timed as usize >= problem.timed.as_slice().len() {
             return Ok(());
         }
-        self.offer(reading, fresh, Item::TimedAt(reading.timed), found)?;
+        self.offer(reading, fresh, unmet, Item::TimedAt(reading.timed), found)?;
         Ok(())
     }
 
-    fn offer_ends(&self, reading: &Reading, fresh: bool, found: &mut Found) -> Result<(), NoMemory>
-        requires { IsReadingOf self.now reading.now }
+    fn offer_ends(
+        &self,
+        reading: &Reading,
+        fresh: bool,
+        unmet: u32,
+        found: &mut Found,
+    ) -> Result<(), NoMemory>
+        requires reading { IsReadingOf self.now reading.now }
+        requires unmet { unmet ≡ unmet_before self.now (progress_of reading.now) }
         ensures { OnOk result (Grew self.now (progress_of reading.now) fresh found.old found.new
             (map End (range_with_len 0 (length self.now.actions)))) }
     {
-        self.offer_row(reading, fresh, &reading.running, false, found)?;
+        self.offer_row(reading, fresh, unmet, &reading.running, false, found)?;
         Ok(())
     }
 
@@ -235,13 +262,15 @@ impl<'p> Judge<'p> {
         &self,
         reading: &Reading,
         fresh: bool,
+        unmet: u32,
         found: &mut Found,
     ) -> Result<(), NoMemory>
-        requires { IsReadingOf self.now reading.now }
+        requires reading { IsReadingOf self.now reading.now }
+        requires unmet { unmet ≡ unmet_before self.now (progress_of reading.now) }
         ensures { OnOk result (Grew self.now (progress_of reading.now) fresh found.old found.new
             (map Start (range_with_len 0 (length self.now.actions)))) }
     {
-        self.offer_row(reading, fresh, &reading.candidates, true, found)?;
+        self.offer_row(reading, fresh, unmet, &reading.candidates, true, found)?;
         Ok(())
     }
 
@@ -251,19 +280,21 @@ impl<'p> Judge<'p> {
         &self,
         reading: &Reading,
         fresh: bool,
+        unmet: u32,
         row: &BitRow,
         starts: bool,
         found: &mut Found,
     ) -> Result<(), NoMemory>
         requires reading { IsReadingOf self.now reading.now }
         requires covers { IsCover self.now (progress_of reading.now) starts row.now }
+        requires unmet { unmet ≡ unmet_before self.now (progress_of reading.now) }
         ensures { OnOk result (Grew self.now (progress_of reading.now) fresh found.old found.new
             (map (item_of starts) (range_with_len 0 (length self.now.actions)))) }
     {
         let problem = self.problem;
         problem.keeps_the_rules();
         for block in 0..problem.actions.as_slice().len().div_ceil(64) {
-            self.offer_block(reading, fresh, row, starts, block, found)?;
+            self.offer_block(reading, fresh, unmet, row, starts, block, found)?;
         }
         Ok(())
     }
@@ -273,6 +304,7 @@ impl<'p> Judge<'p> {
         &self,
         reading: &Reading,
         fresh: bool,
+        unmet: u32,
         row: &BitRow,
         starts: bool,
         block: usize,
@@ -281,6 +313,7 @@ impl<'p> Judge<'p> {
         requires small { block < 1048576 }
         requires reading { IsReadingOf self.now reading.now }
         requires covers { IsCover self.now (progress_of reading.now) starts row.now }
+        requires unmet { unmet ≡ unmet_before self.now (progress_of reading.now) }
         ensures { OnOk result (Grew self.now (progress_of reading.now) fresh found.old found.new
             (map (item_of starts) (range_with_len (64 * block) 64))) }
     {
@@ -289,7 +322,7 @@ impl<'p> Judge<'p> {
         }
         for bit in 0..64 {
             let action = (64 * block + bit) as u32;
-            self.offer_member(reading, fresh, row, item(starts, action), found)?;
+            self.offer_member(reading, fresh, unmet, row, item(starts, action), found)?;
         }
         Ok(())
     }
@@ -299,6 +332,7 @@ impl<'p> Judge<'p> {
         &self,
         reading: &Reading,
         fresh: bool,
+        unmet: u32,
         row: &BitRow,
         item: Item,
         found: &mut Found,
@@ -306,13 +340,14 @@ impl<'p> Judge<'p> {
         requires reading { IsReadingOf self.now reading.now }
         requires covers { joins self.now (progress_of reading.now) item ≡ true
             → is_in_row row.now (number_of item) ≡ true }
+        requires unmet { unmet ≡ unmet_before self.now (progress_of reading.now) }
         ensures { OnOk result (Grew self.now (progress_of reading.now) fresh found.old found.new
             (item ∷ [])) }
     {
         if !row.has(number(item)) {
             return Ok(());
         }
-        self.offer(reading, fresh, item, found)?;
+        self.offer(reading, fresh, unmet, item, found)?;
         Ok(())
     }
 
@@ -321,23 +356,56 @@ impl<'p> Judge<'p> {
         &self,
         reading: &Reading,
         fresh: bool,
+        unmet: u32,
         item: Item,
         found: &mut Found,
     ) -> Result<(), NoMemory>
-        requires { IsReadingOf self.now reading.now }
+        requires reading { IsReadingOf self.now reading.now }
+        requires unmet { unmet ≡ unmet_before self.now (progress_of reading.now) }
         ensures { OnOk result (Grew self.now (progress_of reading.now) fresh found.old found.new
             (item ∷ [])) }
     {
         if !self.may_join(reading, item) {
             return Ok(());
         }
-        let rank = self.rank_with(reading, item)?;
+        let rank = self.rank_with(reading, unmet, item)?;
         found.put(Mark { fresh, item }, rank)
     }
 
     /// How many goal parts do not hold after a word's last group with an item more, which may join
     /// it; all of them where there is no state after it.
-    fn rank_with(&self, reading: &Reading, item: Item) -> Result<u32, NoMemory>
+    fn rank_with(&self, reading: &Reading, unmet: u32, item: Item) -> Result<u32, NoMemory>
+        requires reading { IsReadingOf self.now reading.now }
+        requires joins { IsTrue (joins self.now (progress_of reading.now) item) }
+        requires unmet { unmet ≡ unmet_before self.now (progress_of reading.now) }
+        ensures { IfOk result (λ n. n ≡ unmet_with self.now (progress_of reading.now) item) }
+    {
+        if self.leaves_goal(reading, item) {
+            return Ok(unmet);
+        }
+        match self.rank_by_effects(reading, item) {
+            Some(rank) => Ok(rank),
+            None => self.rank_by_state(reading, item),
+        }
+    }
+
+    /// Whether the goal speaks of nothing that a group with an item more writes.
+    fn leaves_goal(&self, reading: &Reading, item: Item) -> bool
+        ensures { result ≡ true → unmet_before self.now (progress_of reading.now)
+            ≡ unmet_with self.now (progress_of reading.now) item }
+    {
+        stay_in(self.problem, &self.free, &reading.group, item)
+    }
+
+    /// The same by what the items write, where none of them changes a fluent.
+    fn rank_by_effects(&self, reading: &Reading, item: Item) -> Option<u32>
+        ensures { IfSome result (λ n. n ≡ unmet_with self.now (progress_of reading.now) item) }
+    {
+        unmet_by_effects(self.problem, reading, item)
+    }
+
+    /// The same over the state after the longer group.
+    fn rank_by_state(&self, reading: &Reading, item: Item) -> Result<u32, NoMemory>
         requires reading { IsReadingOf self.now reading.now }
         requires joins { IsTrue (joins self.now (progress_of reading.now) item) }
         ensures { IfOk result (λ n. n ≡ unmet_with self.now (progress_of reading.now) item) }

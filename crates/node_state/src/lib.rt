@@ -6,6 +6,7 @@ mod asked;
 mod growth;
 mod judge;
 mod levels;
+mod ranks;
 mod reading;
 mod running;
 mod walker;

@@ -6,7 +6,7 @@ use Rattle.tp_spec.specs.WellFormed.{Ground}
 use Rattle.world_state.specs.Happenings.{is_item_of, same_item}
 use Rattle.node_state.specs.Readings.{progress_of}
 use Rattle.node_state.proofs.Insides.{inside-with}
-use Rattle.node_state.proofs.judge.Judge.rank_with.Goals as goal
+use Rattle.node_state.proofs.judge.Judge.rank_by_state.Goals as goal
 
 pub apply-requires-clause-different : goal.apply-requires-clause-different
 apply-requires-clause-different c =
