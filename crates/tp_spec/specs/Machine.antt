@@ -15,12 +15,8 @@ use Rattle.tp_spec.specs.Courses.{Possible}
 use Rattle.tp_spec.specs.Words.{spell, progress, state_past, Progress, Act, acts_of}
 use Rattle.tp_spec.specs.Schedules.{Schedule, Live, IsGreatest, IsLeast, timed_act, plan_of}
 
--- What of the machine is built. While the clock does not move, `now` stays 0 and readings are only
--- kept; while nothing is dispatched, no best node is urgent. This early machine is the whole one
--- with both set to false.
-abbrev pub clock_moves : Bool
-clock_moves = false
-
+-- What of the machine is built: while nothing is dispatched, no best node is urgent. This early
+-- machine is the whole one with this set to false.
 abbrev pub dispatches : Bool
 dispatches = false
 
@@ -242,7 +238,7 @@ children w made (a ∷ rest) =
 
 -- The clock after a reading: it never goes back, and stops one tick behind the horizon.
 abbrev pub now_after : Limits → ℕ → ℕ → ℕ
-now_after l now reading = if clock_moves then max now (min reading (l.horizon + 1)) else now
+now_after l now reading = max now (min reading (l.horizon + 1))
 
 -- the state after an event
 abbrev pub step : Limits → Machine → Event → Machine

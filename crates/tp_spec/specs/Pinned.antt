@@ -708,10 +708,15 @@ FirstState = first ≡ record {
   over = false;
 }
 
--- A Tick gives the turn to its actor, with no deed made; the clock does not go back.
+-- A Tick gives the turn to its actor, with no deed made. The clock, which stands at 3, does not go
+-- back, and it stops one tick behind the horizon, which is 9.
 abbrev pub TickStep : Type 0
 TickStep = ((step (limits 2 9) amid (Tick 5 2)).turn ≡ Some (record { actor = 5; acted = false }))
     × ((step (limits 2 9) amid (Tick 5 2)).now ≡ 3)
+    × ((step (limits 2 9) amid (Tick 5 4)).now ≡ 4)
+    × ((step (limits 2 9) amid (Tick 5 9)).now ≡ 9)
+    × ((step (limits 2 9) amid (Tick 5 10)).now ≡ 10)
+    × ((step (limits 2 9) amid (Tick 5 30)).now ≡ 10)
 
 -- A Drop takes its node out, and a Dispatch puts its act behind the others.
 abbrev pub SettlingSteps : Type 0
