@@ -9,7 +9,7 @@ use Rattle.tp_spec.specs.declared.problem.Problem.{Problem}
 use Rattle.tp_spec.specs.Words.{Act, Sound, acts_of, groups, closes, at_start, may_join, past_group}
 use Rattle.tp_spec.specs.Machine.{candidate}
 use Rattle.tp_spec.specs.Schedules.{Schedule, IsSchedule, IsGreatest, IsOnTime, Live, acts_by, commits_by}
-use Rattle.tp_laws.specs.Clocks.{OfWord, LaterIsEarlier, StaysGreatest, TellsLive, last_clock, GreatestTells}
+use Rattle.tp_laws.specs.Clocks.{OfWord, LaterIsEarlier, StaysGreatest, TellsLive, last_clock, GreatestTells, IsDeadline, deadline_of, GreatestGivesDeadline}
 use Rattle.tp_laws.proofs.ClockKth.{IsFrom, AreFrom, KthWith, kth-each, each-kth}
 use Rattle.tp_laws.proofs.ClockOpens.{acts-rise}
 use Rattle.tp_laws.proofs.ClockCandidates.{counts_none, from-candidate, to-candidate, no-candidate, candidate-up}
@@ -132,3 +132,20 @@ greatest-tells p l c w x sound g = by_candidate (candidate [] c (acts_of p w)) r
     by_candidate : (o : Option Act) → candidate [] c (acts_of p w) ≡ o → TellsLive p l c w (last_clock x o)
     by_candidate None e now = (λ live. tt, λ u. none-left p l 0 now c w x (omega arith) sound g e)
     by_candidate (Some next) e now = candidate-tells p l 0 now c w x next (omega arith) sound g e
+
+-- what tells at every clock tells as far as the machine's clock goes
+tells-deadline : (p : Problem) (l : Limits) (c : List Timed) (w : List Mark) (o : Option ℕ) → TellsLive p l c w o → IsDeadline p l c w (deadline_of l o)
+tells-deadline p l c w None h = record {
+  within = omega arith;
+  tells = λ now le. (λ live. le, λ below. (h now).1 tt);
+}
+tells-deadline p l c w (Some t) h = record {
+  within = omega arith;
+  tells = λ now le. (
+    λ live. let before : now ≤ t = (h now).0 live in omega (arith, le, before),
+    λ below. (h now).1 (omega (arith, below)),
+  );
+}
+
+pub greatest-deadline : OfWord GreatestGivesDeadline
+greatest-deadline p l c w x sound g = tells-deadline p l c w (last_clock x (candidate [] c (acts_of p w))) (greatest-tells p l c w x sound g)

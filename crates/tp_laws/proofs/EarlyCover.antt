@@ -12,12 +12,15 @@ use Rattle.tp_spec.specs.Courses.{Possible}
 use Rattle.tp_spec.specs.Words.{spell}
 use Rattle.tp_spec.specs.Schedules.{Live}
 use Rattle.tp_spec.specs.Machine.{Machine, Node, without, children, word_of, step, IsCovered, ExpandIsLegal}
-use Rattle.tp_laws.specs.Early.{IsEarly}
 use Rattle.tp_laws.proofs.EarlyLists.{each-in, each-true, in-left, in-right}
 
--- each front of a possible plan's word is live, before the clock moves
+-- each front of a possible plan's word is live, at every clock and while nothing is dispatched
 abbrev pub FrontsLive : Problem → Limits → Type 0
-FrontsLive p l = (plan : Plan) (front : List Mark) → Possible p l 0 [] plan → BeginsWith (spell p plan) front → Live p l 0 [] front
+FrontsLive p l = (now : ℕ) (plan : Plan) (front : List Mark) → Possible p l now [] plan → BeginsWith (spell p plan) front → Live p l now [] front
+
+-- the same in a state of the machine
+abbrev pub FrontsLiveAt : Problem → Limits → Machine → Type 0
+FrontsLiveAt p l m = (plan : Plan) (front : List Mark) → Possible p l m.now m.commits plan → BeginsWith (spell p plan) front → Live p l m.now m.commits front
 
 -- a node of another id stays
 pub in-without : (id : ℕ) (n : Node) (ns : List Node) → (n.id == id) ≡ false → IsIn n ns → IsIn n (without id ns)
@@ -43,20 +46,14 @@ word_of-in id n (m ∷ ns) apart (inr h) e = by_test (word_of-in id n ns (and_pa
       let same : m.id ≡ n.id = omega (arith, eqb-true m.id id f, eqb-true n.id id e) in
       absurd (false≢true (ap not (sym (eq-eqb m.id n.id same)) ∙ differ))
 
-module _ (p : Problem) (l : Limits) (m : Machine) (early : IsEarly m) where
-  now-live : (w : List Mark) → Live p l 0 [] w → Live p l m.now m.commits w
-  now-live w h = subst (λ n. Live p l n m.commits w) (sym early.still) (subst (λ cs. Live p l 0 cs w) (sym early.free) h)
-
-  then-possible : (plan : Plan) → Possible p l m.now m.commits plan → Possible p l 0 [] plan
-  then-possible plan h = subst (λ cs. Possible p l 0 cs plan) early.free (subst (λ n. Possible p l n m.commits plan) early.still h)
-
-  pub cover-expand : FrontsLive p l → (actor id : ℕ) (marks : List Mark) → ExpandIsLegal p l m actor id marks → (plan : Plan) → Possible p l m.now m.commits plan → IsCovered p m plan → IsCovered p (step l m (Expand actor id marks)) plan
+module _ (p : Problem) (l : Limits) (m : Machine) (told_apart : each_pair (λ a b. not (a.id == b.id)) m.nodes ≡ true) where
+  pub cover-expand : FrontsLiveAt p l m → (actor id : ℕ) (marks : List Mark) → ExpandIsLegal p l m actor id marks → (plan : Plan) → Possible p l m.now m.commits plan → IsCovered p m plan → IsCovered p (step l m (Expand actor id marks)) plan
   cover-expand live actor id marks legal plan possible cover = by_test (cover.node.id == id) refl where
     w : List Mark
     w = word_of id m.nodes
 
     is_word : (n : Node) → IsIn n m.nodes → (n.id == id) ≡ true → word_of id m.nodes ≡ n.word
-    is_word n i e = word_of-in id n m.nodes early.told_apart i e
+    is_word n i e = word_of-in id n m.nodes told_apart i e
 
     node_word : word_of id m.nodes ≡ legal.node.word
     node_word = is_word legal.node legal.taken.there (eq-eqb legal.node.id id legal.taken.named)
@@ -66,7 +63,7 @@ module _ (p : Problem) (l : Limits) (m : Machine) (early : IsEarly m) where
     by_rest (a ∷ rest) whole =
         let v : List Mark = legal.node.word ++ a ∷ [] in
         let more : spell p plan ≡ v ++ rest = whole ∙ sym (append_assoc legal.node.word (a ∷ []) rest) in
-        let in_marks : IsIn a marks = legal.exact.all a (now-live v (live plan v (then-possible plan possible) (record { rest = rest; is = more }))) in
+        let in_marks : IsIn a marks = legal.exact.all a (live plan v possible (record { rest = rest; is = more })) in
         let child = child_of_mark (word_of id m.nodes) m.made marks a in_marks in
         let child_word : child.0.word ≡ v = child.2 ∙ ap (λ u. u ++ a ∷ []) node_word in
         record {

@@ -1,6 +1,6 @@
 -- The end of a plan and the groups of its word.
 use Rattle.std.proofs.Common.{◌≡◌, refl, sym, ap, subst, ◌∙◌, ℕ, zero, suc, ◌+◌, ◌<◌, ◌≤◌, List, [], ◌∷◌, ◌++◌, map, length, Some, arith, length-append, inl, inr}
-use Rattle.std.specs.Prelude.{Bool, true, false, not, ◌||◌, ◌==◌, Option, if◌then◌else◌}
+use Rattle.std.specs.Prelude.{◌-◌, cond, Bool, true, false, not, ◌||◌, ◌==◌, Option, if◌then◌else◌}
 use Rattle.std.specs.List.{last_or}
 use Rattle.std.proofs.lemmas.Bool.{eqb-true, cases_order}
 use Rattle.tp_spec.specs.declared.plan.Item.{Item}
@@ -9,13 +9,21 @@ use Rattle.tp_spec.specs.declared.plan.Timed.{Timed}
 use Rattle.tp_spec.specs.declared.problem.Problem.{Problem}
 use Rattle.tp_spec.specs.Lists.{is_empty}
 use Rattle.tp_spec.specs.Courses.{happening}
-use Rattle.tp_spec.specs.Words.{groups, joining, marked, spelled}
+use Rattle.tp_spec.specs.Words.{Act, acts_from, groups, joining, marked, spelled, with_act}
 use Rattle.tp_laws.specs.Laws.{happening_ticks}
 use Rattle.tp_spec.proofs.Ticks.{le_suc}
 
 pub groups-append : (u v : List Mark) → groups (u ++ v) ≡ groups u + groups v
 groups-append [] v = omega arith
 groups-append (m ∷ u) v = let ih = groups-append u v in omega arith
+
+-- what is read behind a front adds to the front's acts
+pub acts-append : (p : Problem) (n : ℕ) (u v : List Mark) (xs : List Act) → acts_from p n (u ++ v) xs ≡ acts_from p (n + groups u) v (acts_from p n u xs)
+acts-append p n [] v xs = let e : n ≡ n + 0 = omega arith in ap (λ k. acts_from p k v xs) e
+acts-append p n (m ∷ u) v xs =
+    let k : ℕ = cond m.fresh (n + 1) n in
+    let e : k + groups u ≡ n + (cond m.fresh 1 0 + groups u) = elim m.fresh as (λ b. cond b (n + 1) n + groups u ≡ n + (cond b 1 0 + groups u)) [ true ↦ omega arith | false ↦ omega arith ] in
+    acts-append p k u v (with_act p (k - 1) m.item xs) ∙ ap (λ j. acts_from p j v (acts_from p k u (with_act p (k - 1) m.item xs))) e
 
 pub groups-joining : (is : List Item) → groups (map joining is) ≡ 0
 groups-joining [] = refl

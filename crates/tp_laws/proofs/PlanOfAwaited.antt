@@ -4,7 +4,6 @@ use Rattle.std.specs.Prelude.{◌==◌, ◌||◌, if◌then◌else◌}
 use Rattle.std.specs.List.{AllByRecursion as Each, list_any}
 use Rattle.std.proofs.lemmas.Bool.{eq-eqb, false≢true}
 use Rattle.tp_spec.specs.declared.plan.Timed.{Timed}
-use Rattle.tp_spec.specs.Lists.{IsIn}
 use Rattle.tp_spec.specs.Words.{Act}
 use Rattle.tp_spec.specs.Schedules.{awaited, without_first}
 use Rattle.tp_laws.proofs.PlanOfBeside.{Beside}
@@ -12,10 +11,6 @@ use Rattle.tp_laws.proofs.PlanOfCommits.{Kept, First, without, first-kept, rest-
 
 abbrev pub OfOne : Act → Timed → Type 0
 OfOne x y = x.action ≡ y.action
-
--- an action has an act among the done ones, or none
-abbrev Among : ℕ → List Act → Bool
-Among a xs = list_any (λ x. x.action == a) xs
 
 took : (a : ℕ) (xs : List Act) (done rest : List Timed) → Beside OfOne xs done → list_any (λ x. x.action == a) xs ≡ true
     → (without a (done ++ rest) ≡ without a done ++ rest) × Beside OfOne (without_first a xs) (without a done)
@@ -51,11 +46,6 @@ left c (x ∷ xs) (y ∷ ys) rest b e (inr f) =
     others : (s : Bool) → (s || list_any (λ z. z.action == c.action) xs) ≡ false → list_any (λ z. z.action == c.action) xs ≡ false
     others true k = absurd (false≢true (sym k))
     others false k = k
-
-first-in : (c : Timed) (ys : List Timed) → First c ys → IsIn c ys
-first-in c [] f = absurd f
-first-in c (y ∷ ys) (inl e) = inl e
-first-in c (y ∷ ys) (inr f) = inr (first-in c ys f.1)
 
 one-less : (c : Timed) (ys : List Timed) → First c ys → length ys ≡ suc (length (without c.action ys))
 one-less c [] f = absurd f

@@ -14,12 +14,12 @@ use Rattle.tp_spec.specs.Lists.{some_and}
 use Rattle.tp_spec.specs.Courses.{stands}
 use Rattle.tp_spec.specs.Words.{groups, acts_of, with_act, timed_from, timed_of, timed_group}
 use Rattle.tp_laws.proofs.Ends.{groups-append}
-use Rattle.tp_laws.proofs.EarlyTold.{acts-append}
+use Rattle.tp_laws.proofs.Ends.{acts-append}
 use Rattle.tp_laws.proofs.ClockActs.{there}
 use Rattle.tp_laws.proofs.PlanOfBeside.{Pairs}
 use Rattle.tp_laws.proofs.PlanOfOrders.{some-at, pairs-get}
 
-timed-append : (n : ℕ) (u v : List Mark) → timed_from n (u ++ v) ≡ timed_from n u ++ timed_from (n + groups u) v
+pub timed-append : (n : ℕ) (u v : List Mark) → timed_from n (u ++ v) ≡ timed_from n u ++ timed_from (n + groups u) v
 timed-append n [] v = let e : n ≡ n + 0 = omega arith in ap (λ k. timed_from k v) e
 timed-append n (m ∷ u) v =
     let k : ℕ = cond m.fresh (n + 1) n in
@@ -73,7 +73,7 @@ ticks-more p tick u v i g t e at old h lt = by_old (e.below h lt)
 same-at : {A : Type 0} (o : Option A) (x y : A) → o ≡ Some x → o ≡ Some y → x ≡ y
 same-at o x y d e = let both : Some x ≡ Some y = sym d ∙ e in cc
 
-push-get : (xs : List ℕ) (g j h : ℕ) → slice_get (xs ++ g ∷ []) j ≡ Some h → (slice_get xs j ≡ Some h) ⊎ ((j ≡ length xs) × (g ≡ h))
+pub push-get : (xs : List ℕ) (g j h : ℕ) → slice_get (xs ++ g ∷ []) j ≡ Some h → (slice_get xs j ≡ Some h) ⊎ ((j ≡ length xs) × (g ≡ h))
 push-get [] g zero h e = inr (refl, cc)
 push-get [] g (suc j) h e = absurd cc
 push-get (x ∷ xs) g zero h e = inl e

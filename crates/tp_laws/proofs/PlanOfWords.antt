@@ -15,7 +15,8 @@ use Rattle.tp_spec.specs.Items.{all_items}
 use Rattle.tp_spec.specs.Courses.{happening, stands}
 use Rattle.tp_spec.specs.Words.{groups, marked, spelled, timed_of}
 use Rattle.tp_laws.proofs.EarlyLists.{in-left, in-right}
-use Rattle.tp_laws.proofs.StartMarks.{in-map, in-filter, in-range}
+use Rattle.tp_laws.proofs.Runs.{map-in}
+use Rattle.tp_laws.proofs.WordOfLists.{filter-in, range-in}
 use Rattle.tp_laws.proofs.PlanOfOrders.{Plays}
 use Rattle.tp_laws.proofs.PlanOfTicks.{groups_at, tick_before, tick-opened}
 use Rattle.tp_laws.proofs.PlanOfPairs.{Ahead}
@@ -112,27 +113,27 @@ module _ (p : Problem) (acts : List Timed) (top : ℕ) where
   module _ (plays : Plays p acts) (t : ℕ) (below : t < top) where
     -- what stands at the tick names it
     named : (i : Item) → IsIn i (all_items p) → stands p acts t i ≡ true → ticks_to (groups_at p acts t) ≡ t
-    named i there on = tick-opened p acts top t below (some-in (happening p acts t) i (in-filter (stands p acts t) (all_items p) i there on))
+    named i there on = tick-opened p acts top t below (some-in (happening p acts t) i (filter-in (stands p acts t) (all_items p) i there on))
 
     in_numbers : (n k : ℕ) → k < n → IsIn k (range_with_len 0 n)
-    in_numbers n k b = in-range n 0 k (omega arith) (omega (arith, b))
+    in_numbers n k b = range-in k 0 n (omega arith) (omega (arith, b))
 
     timed_in : (k : ℕ) → k < length p.timed → IsIn (TimedAt k) (all_items p)
     timed_in k b =
         in-left (TimedAt k) (map TimedAt (range_with_len 0 (length p.timed)) ++ map End (range_with_len 0 (length p.actions))) (map Start (range_with_len 0 (length p.actions)))
         (in-left (TimedAt k) (map TimedAt (range_with_len 0 (length p.timed))) (map End (range_with_len 0 (length p.actions)))
-        (in-map TimedAt (range_with_len 0 (length p.timed)) k (in_numbers (length p.timed) k b)))
+        (map-in TimedAt k (range_with_len 0 (length p.timed)) (in_numbers (length p.timed) k b)))
 
     end_in : (k : ℕ) → k < length p.actions → IsIn (End k) (all_items p)
     end_in k b =
         in-left (End k) (map TimedAt (range_with_len 0 (length p.timed)) ++ map End (range_with_len 0 (length p.actions))) (map Start (range_with_len 0 (length p.actions)))
         (in-right (End k) (map TimedAt (range_with_len 0 (length p.timed))) (map End (range_with_len 0 (length p.actions)))
-        (in-map End (range_with_len 0 (length p.actions)) k (in_numbers (length p.actions) k b)))
+        (map-in End k (range_with_len 0 (length p.actions)) (in_numbers (length p.actions) k b)))
 
     start_in : (k : ℕ) → k < length p.actions → IsIn (Start k) (all_items p)
     start_in k b =
         in-right (Start k) (map TimedAt (range_with_len 0 (length p.timed)) ++ map End (range_with_len 0 (length p.actions))) (map Start (range_with_len 0 (length p.actions)))
-        (in-map Start (range_with_len 0 (length p.actions)) k (in_numbers (length p.actions) k b))
+        (map-in Start k (range_with_len 0 (length p.actions)) (in_numbers (length p.actions) k b))
 
     counts : (u : List Mark) (fresh : Bool) (i : Item) → groups u ≡ cond fresh (groups_at p acts t) (suc (groups_at p acts t)) → groups (u ++ record { fresh = fresh; item = i } ∷ []) ≡ suc (groups_at p acts t)
     counts u fresh i c = (emits p u fresh i (groups_at p acts t) c).count

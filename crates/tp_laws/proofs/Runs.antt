@@ -1,8 +1,9 @@
--- What holds in every state of a run: the clock stands at 0 without commitments, ids tell nodes apart, each word is live
--- and no longer than its id, and each possible plan begins with the word of a node.
-use Rattle.std.proofs.Common.{◌≡◌, refl, sym, ap, subst, ◌∙◌, ℕ, suc, ◌+◌, ◌<◌, ◌≤◌, ◌⊎◌, inl, inr, ◌==◌, max, nat_lt, Bool, true, false, not, ◌&&◌, cond, List, [], ◌∷◌, ◌++◌, length, map, Some, arith}
+-- What holds in every state of a run: nothing is dispatched, the clock is at most one tick past the horizon, ids tell
+-- nodes apart, each word was live when the clock began and is no longer than its id, and each plan that is still possible
+-- begins with the word of a node.
+use Rattle.std.proofs.Common.{◌≡◌, refl, sym, ap, subst, ◌∙◌, ℕ, suc, ◌+◌, ◌<◌, ◌≤◌, ◌⊎◌, inl, inr, ◌==◌, max, nat_lt, nat_le, Bool, true, false, not, ◌&&◌, ◌||◌, cond, List, [], ◌∷◌, ◌++◌, length, map, Some, arith}
 use Rattle.std.specs.List.{filter, list_all}
-use Rattle.std.proofs.lemmas.Bool.{and_parts, and_from, false≢true, lt-ltb, ltb-true, eq-eqb}
+use Rattle.std.proofs.lemmas.Bool.{and_parts, and_from, false≢true, lt-ltb, ltb-true, leb-true, le-leb, eq-eqb}
 use Rattle.std.proofs.lemmas.Bool.Decides.{nat_tests}
 use Rattle.std.proofs.lemmas.List.{length-append}
 use Rattle.std.proofs.lemmas.List.Folds.{list_all-append}
@@ -11,15 +12,17 @@ use Rattle.tp_spec.specs.declared.event.Event.TheVariants.{Tick, Drop, Dispatch,
 use Rattle.tp_spec.specs.declared.plan.Limits.{Limits}
 use Rattle.tp_spec.specs.declared.plan.Mark.{Mark}
 use Rattle.tp_spec.specs.declared.plan.Plan.{Plan}
+use Rattle.tp_spec.specs.declared.plan.Timed.{Timed}
 use Rattle.tp_spec.specs.declared.problem.Problem.{Problem}
-use Rattle.tp_spec.specs.Courses.{Possible}
+use Rattle.tp_spec.specs.Courses.{Possible, has_act}
 use Rattle.tp_spec.specs.Lists.{IsIn, BeginsWith, each_pair}
 use Rattle.tp_spec.specs.Machine.{Machine, Node, first, root, step, end_of, state_of, AreLegal, Legal, IsRun, IsCovered, DropIsLegal, ExpandIsLegal, taken_by, without, children, word_of}
 use Rattle.tp_spec.specs.Schedules.{Live}
 use Rattle.tp_spec.specs.Words.{spell}
 use Rattle.tp_laws.specs.Histories.{IsTree, is_below}
 use Rattle.tp_laws.proofs.EarlyLists.{each-in, each-true}
-use Rattle.tp_laws.proofs.EarlyCover.{FrontsLive, cover-expand, in-without, word_of-in}
+use Rattle.tp_laws.proofs.EarlyCover.{FrontsLive, FrontsLiveAt, cover-expand, in-without, word_of-in}
+use Rattle.tp_laws.proofs.ClockCommits.{live-earlier}
 
 -- histories in parts
 
@@ -140,6 +143,31 @@ taken-word actor id n = elim (n.id == id) as (λ b. (cond b (record n { taker = 
 taken-short : (actor id : ℕ) (n : Node) → length n.word ≤ n.id → length (taken_by actor id n).word ≤ (taken_by actor id n).id
 taken-short actor id n e = elim (n.id == id) as (λ b. length (cond b (record n { taker = Some actor }) n).word ≤ (cond b (record n { taker = Some actor }) n).id) [ true ↦ e | false ↦ e ]
 
+-- a later clock has fewer possible plans
+
+abbrev starts_later : ℕ → List Timed → Timed → Bool
+starts_later now commits x = has_act commits x || (nat_le now x.start && list_all (λ c. not (c.action == x.action) || nat_lt c.start x.start) commits)
+
+-- two tests on plain values, of which only the middle one changes
+one-later : (a b c d : Bool) → (b ≡ true → d ≡ true) → (a || (b && c)) ≡ true → (a || (d && c)) ≡ true
+one-later true b c d f h = refl
+one-later false b c d f h = and_from _ _ (f (and_parts _ _ h).0) (and_parts _ _ h).1
+
+later-starts : (now later : ℕ) (commits xs : List Timed) → now ≤ later → list_all (starts_later later commits) xs ≡ true → list_all (starts_later now commits) xs ≡ true
+later-starts now later commits [] le h = refl
+later-starts now later commits (x ∷ xs) le h =
+    and_from _ _
+    (one-later (has_act commits x) (nat_le later x.start) (list_all (λ c. not (c.action == x.action) || nat_lt c.start x.start) commits) (nat_le now x.start)
+    (λ e. le-leb now x.start (omega (arith, le, leb-true later x.start e))) (and_parts _ _ h).0)
+    (later-starts now later commits xs le (and_parts _ _ h).1)
+
+pub possible-before : (p : Problem) (l : Limits) (now later : ℕ) (commits : List Timed) (plan : Plan) → now ≤ later → Possible p l later commits plan → Possible p l now commits plan
+possible-before p l now later commits plan le h = record {
+  valid = h.valid;
+  committed = h.committed;
+  later = later-starts now later commits plan.acts le h.later;
+}
+
 module _ (p : Problem) (l : Limits) (fronts : FrontsLive p l) where
   -- the empty word is live
   live-root : Live p l 0 [] []
@@ -161,7 +189,9 @@ module _ (p : Problem) (l : Limits) (fronts : FrontsLive p l) where
 
   pub tree-first : IsTree p l first
   tree-first = record {
-    early = record { still = refl; free = refl; told_apart = refl };
+    free = refl;
+    clocked = omega arith;
+    told_apart = refl;
     below = refl;
     live = λ n h. elim h [ inl e ↦ subst (λ w. Live p l 0 [] w) (ap (λ k. k.word) e) live-root | inr k ↦ absurd k ];
     covers = λ plan h. record { node = root; there = inl refl; begins = record { rest = spell p plan; is = refl } };
@@ -169,41 +199,43 @@ module _ (p : Problem) (l : Limits) (fronts : FrontsLive p l) where
     short = λ n h. elim h [ inl e ↦ subst (λ (k : Node). length k.word ≤ k.id) e (omega arith) | inr k ↦ absurd k ];
   }
 
-  -- the same nodes at the same clock
-  tree-same : (m n : Machine) → n.now ≡ m.now → n.commits ≡ m.commits → n.nodes ≡ m.nodes → n.made ≡ m.made → IsTree p l m → IsTree p l n
-  tree-same m n now commits nodes made t = record {
-    early = record {
-      still = now ∙ t.early.still;
-      free = commits ∙ t.early.free;
-      told_apart = subst (λ ns. each_pair differ ns ≡ true) (sym nodes) t.early.told_apart;
-    };
+  -- the same nodes at the same clock or a later one
+  tree-same : (m n : Machine) → m.now ≤ n.now → n.now ≤ l.horizon + 1 → n.commits ≡ m.commits → n.nodes ≡ m.nodes → n.made ≡ m.made → IsTree p l m → IsTree p l n
+  tree-same m n now top commits nodes made t = record {
+    free = commits ∙ t.free;
+    clocked = top;
+    told_apart = subst (λ ns. each_pair differ ns ≡ true) (sym nodes) t.told_apart;
     below = (λ i. list_all (is_below (made i)) (nodes i)) ∙ t.below;
     live = λ k h. t.live k (subst (λ ns. IsIn k ns) nodes h);
-    covers = λ plan h. let c : IsCovered p m plan = t.covers plan h in record { node = c.node; there = subst (λ ns. IsIn c.node ns) (sym nodes) c.there; begins = c.begins };
+    covers = λ plan h.
+        let c : IsCovered p m plan = t.covers plan (possible-before p l m.now n.now m.commits plan now (subst (λ cs. Possible p l n.now cs plan) commits h)) in
+        record { node = c.node; there = subst (λ ns. IsIn c.node ns) (sym nodes) c.there; begins = c.begins };
     few = subst (λ k. k ≤ max 1 l.nodes) (sym made) t.few;
     short = λ k h. t.short k (subst (λ ns. IsIn k ns) nodes h);
   }
 
   module _ (m : Machine) (t : IsTree p l m) where
-    pub now-possible : (plan : Plan) → Possible p l 0 [] plan → Possible p l m.now m.commits plan
-    now-possible plan h = subst (λ cs. Possible p l m.now cs plan) (sym t.early.free) (subst (λ n. Possible p l n [] plan) (sym t.early.still) h)
+    pub now-possible : (plan : Plan) → Possible p l m.now [] plan → Possible p l m.now m.commits plan
+    now-possible plan h = subst (λ cs. Possible p l m.now cs plan) (sym t.free) h
 
-    pub then-possible : (plan : Plan) → Possible p l m.now m.commits plan → Possible p l 0 [] plan
-    then-possible plan h = subst (λ cs. Possible p l 0 cs plan) t.early.free (subst (λ n. Possible p l n m.commits plan) t.early.still h)
+    pub then-possible : (plan : Plan) → Possible p l m.now m.commits plan → Possible p l m.now [] plan
+    then-possible plan h = subst (λ cs. Possible p l m.now cs plan) t.free h
 
-    pub now-live : (w : List Mark) → Live p l 0 [] w → Live p l m.now m.commits w
-    now-live w h = subst (λ cs. Live p l m.now cs w) (sym t.early.free) (subst (λ n. Live p l n [] w) (sym t.early.still) h)
+    pub now-live : (w : List Mark) → Live p l m.now [] w → Live p l m.now m.commits w
+    now-live w h = subst (λ cs. Live p l m.now cs w) (sym t.free) h
 
-    pub then-live : (w : List Mark) → Live p l m.now m.commits w → Live p l 0 [] w
-    then-live w h = subst (λ cs. Live p l 0 cs w) t.early.free (subst (λ n. Live p l n m.commits w) t.early.still h)
+    pub then-live : (w : List Mark) → Live p l m.now m.commits w → Live p l m.now [] w
+    then-live w h = subst (λ cs. Live p l m.now cs w) t.free h
+
+    -- what is live was live when the clock began
+    pub first-live : (w : List Mark) → Live p l m.now m.commits w → Live p l 0 [] w
+    first-live w h = live-earlier p l [] w 0 m.now [] (omega arith) (λ d i. absurd i) (then-live w h)
 
     tree-drop : (id : ℕ) → DropIsLegal p l m id → IsTree p l (step l m (Drop id))
     tree-drop id legal = record {
-      early = record {
-        still = t.early.still;
-        free = t.early.free;
-        told_apart = apart-filter (λ n. not (n.id == id)) m.nodes t.early.told_apart;
-      };
+      free = t.free;
+      clocked = t.clocked;
+      told_apart = apart-filter (λ n. not (n.id == id)) m.nodes t.told_apart;
       below = all-filter (is_below m.made) (λ n. not (n.id == id)) m.nodes t.below;
       live = λ n h. t.live n (in-filter (λ k. not (k.id == id)) n m.nodes h);
       covers = λ plan h. let c : IsCovered p m plan = t.covers plan h in by_test plan h c (c.node.id == id) refl;
@@ -211,21 +243,19 @@ module _ (p : Problem) (l : Limits) (fronts : FrontsLive p l) where
       short = λ n h. t.short n (in-filter (λ k. not (k.id == id)) n m.nodes h);
     }
       where
-        by_test : (plan : Plan) → Possible p l 0 [] plan → (c : IsCovered p m plan) → (b : Bool) → (c.node.id == id) ≡ b → IsCovered p (step l m (Drop id)) plan
+        by_test : (plan : Plan) → Possible p l m.now m.commits plan → (c : IsCovered p m plan) → (b : Bool) → (c.node.id == id) ≡ b → IsCovered p (step l m (Drop id)) plan
         by_test plan h c false e = record { node = c.node; there = in-without id c.node m.nodes e c.there; begins = c.begins }
         by_test plan h c true e =
             let same : c.node.word ≡ legal.node.word =
-            sym (word_of-in id c.node m.nodes t.early.told_apart c.there e)
-            ∙ word_of-in id legal.node m.nodes t.early.told_apart legal.there (eq-eqb legal.node.id id legal.named) in
-            absurd (legal.hopeless plan (now-possible plan h) (subst (λ w. BeginsWith (spell p plan) w) same c.begins))
+            sym (word_of-in id c.node m.nodes t.told_apart c.there e)
+            ∙ word_of-in id legal.node m.nodes t.told_apart legal.there (eq-eqb legal.node.id id legal.named) in
+            absurd (legal.hopeless plan h (subst (λ w. BeginsWith (spell p plan) w) same c.begins))
 
     tree-take : (actor id : ℕ) → IsTree p l (step l m (Take actor id))
     tree-take actor id = record {
-      early = record {
-        still = t.early.still;
-        free = t.early.free;
-        told_apart = apart-map (taken_by actor id) (taken-id actor id) m.nodes ∙ t.early.told_apart;
-      };
+      free = t.free;
+      clocked = t.clocked;
+      told_apart = apart-map (taken_by actor id) (taken-id actor id) m.nodes ∙ t.told_apart;
       below = below-map (taken_by actor id) (taken-id actor id) m.made m.nodes ∙ t.below;
       live = λ n h.
           let from = in-map (taken_by actor id) n m.nodes h in
@@ -244,18 +274,16 @@ module _ (p : Problem) (l : Limits) (fronts : FrontsLive p l) where
 
     tree-expand : (actor id : ℕ) (marks : List Mark) → ExpandIsLegal p l m actor id marks → IsTree p l (step l m (Expand actor id marks))
     tree-expand actor id marks legal = record {
-      early = record {
-        still = t.early.still;
-        free = t.early.free;
-        told_apart = apart-children (without id m.nodes) w m.made marks left (apart-filter (λ n. not (n.id == id)) m.nodes t.early.told_apart);
-      };
+      free = t.free;
+      clocked = t.clocked;
+      told_apart = apart-children (without id m.nodes) w m.made marks left (apart-filter (λ n. not (n.id == id)) m.nodes t.told_apart);
       below = list_all-append (is_below (m.made + length marks)) (without id m.nodes) (children w m.made marks)
           ∙ and_from _ _ (below-more m.made (m.made + length marks) (without id m.nodes) (omega arith) left) (children-below w m.made (m.made + length marks) marks (omega arith));
       live = λ n h. elim (in-append n (without id m.nodes) (children w m.made marks) h) [
         | inl i ↦ t.live n (in-filter (λ k. not (k.id == id)) n m.nodes i)
         | inr i ↦ live-child n (in-children w m.made marks n i)
       ];
-      covers = λ plan h. cover-expand p l m t.early fronts actor id marks legal plan (now-possible plan h) (t.covers plan h);
+      covers = λ plan h. cover-expand p l m t.told_apart fronts-now actor id marks legal plan h (t.covers plan h);
       few = omega (arith, legal.room);
       short = λ n h. elim (in-append n (without id m.nodes) (children w m.made marks) h) [
         | inl i ↦ t.short n (in-filter (λ k. not (k.id == id)) n m.nodes i)
@@ -266,11 +294,14 @@ module _ (p : Problem) (l : Limits) (fronts : FrontsLive p l) where
         w : List Mark
         w = word_of id m.nodes
 
+        fronts-now : FrontsLiveAt p l m
+        fronts-now plan front possible begins = now-live front (fronts m.now plan front (then-possible plan possible) begins)
+
         left : list_all (is_below m.made) (without id m.nodes) ≡ true
         left = all-filter (is_below m.made) (λ n. not (n.id == id)) m.nodes t.below
 
         word : w ≡ legal.node.word
-        word = word_of-in id legal.node m.nodes t.early.told_apart legal.taken.there (eq-eqb legal.node.id id legal.taken.named)
+        word = word_of-in id legal.node m.nodes t.told_apart legal.taken.there (eq-eqb legal.node.id id legal.taken.named)
 
         -- the node was given an id below those of its children
         below-made : legal.node.id < m.made
@@ -282,18 +313,22 @@ module _ (p : Problem) (l : Limits) (fronts : FrontsLive p l) where
             omega (arith, longer, t.short legal.node legal.taken.there, below-made, c.new)
 
         live-child : (n : Node) → IsChild w m.made marks n → Live p l 0 [] n.word
-        live-child n c = subst (λ v. Live p l 0 [] v) (ap (λ v. v ++ c.mark ∷ []) (sym word) ∙ sym c.word) (then-live (legal.node.word ++ c.mark ∷ []) (legal.exact.live c.mark c.there))
+        live-child n c = subst (λ v. Live p l 0 [] v) (ap (λ v. v ++ c.mark ∷ []) (sym word) ∙ sym c.word) (first-live (legal.node.word ++ c.mark ∷ []) (legal.exact.live c.mark c.there))
+
+    -- a deed or an outcome that leaves clock, commitments and nodes as they are
+    tree-kept : (n : Machine) → n.now ≡ m.now → n.commits ≡ m.commits → n.nodes ≡ m.nodes → n.made ≡ m.made → IsTree p l n
+    tree-kept n now commits nodes made = tree-same m n (omega (arith, now)) (omega (arith, now, t.clocked)) commits nodes made t
 
     pub tree-step : (e : Event) → Legal p l m e → IsTree p l (step l m e)
-    tree-step (Tick actor reading) legal = tree-same m (step l m (Tick actor reading)) refl refl refl refl t
+    tree-step (Tick actor reading) legal = tree-same m (step l m (Tick actor reading)) (omega arith) (omega (arith, t.clocked)) refl refl refl t
     tree-step (Drop id) legal = tree-drop id legal
     tree-step (Dispatch act) legal = absurd (false≢true legal.built)
     tree-step (Take actor id) legal = tree-take actor id
     tree-step (Expand actor id marks) legal = tree-expand actor id marks legal
-    tree-step (Publish actor id plan) legal = tree-same m (step l m (Publish actor id plan)) refl refl refl refl t
-    tree-step (Limit actor id made marks) legal = tree-same m (step l m (Limit actor id made marks)) refl refl refl refl t
-    tree-step Exhaust legal = tree-same m (step l m Exhaust) refl refl refl refl t
-    tree-step (Halt cause) legal = tree-same m (step l m (Halt cause)) refl refl refl refl t
+    tree-step (Publish actor id plan) legal = tree-kept (step l m (Publish actor id plan)) refl refl refl refl
+    tree-step (Limit actor id made marks) legal = tree-kept (step l m (Limit actor id made marks)) refl refl refl refl
+    tree-step Exhaust legal = tree-kept (step l m Exhaust) refl refl refl refl
+    tree-step (Halt cause) legal = tree-kept (step l m (Halt cause)) refl refl refl refl
 
   pub tree-run : (m : Machine) (es : List Event) → AreLegal p l m es → IsTree p l m → IsTree p l (end_of l m es)
   tree-run m [] legal t = t

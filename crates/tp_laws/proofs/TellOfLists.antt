@@ -1,5 +1,5 @@
 -- Lists that rise, and what a filter of one is; the order of items.
-use Rattle.std.proofs.Common.{◌≡◌, refl, sym, ap, subst, ◌∙◌, ℕ, zero, suc, ◌+◌, ◌<◌, ◌≤◌, ◌==◌, inl, inr, Bool, true, false, ◌&&◌, ◌||◌, cond, List, [], ◌∷◌, ◌++◌, map, length, Some, None, arith, nat_lt}
+use Rattle.std.proofs.Common.{◌≡◌, refl, sym, ap, subst, ◌∙◌, ℕ, zero, suc, ◌<◌, ◌≤◌, ◌==◌, inl, inr, Bool, true, false, ◌&&◌, ◌||◌, cond, List, [], ◌∷◌, ◌++◌, map, length, Some, None, arith, nat_lt}
 use Rattle.std.specs.Prelude.{slice_get, IfSome}
 use Rattle.std.specs.List.{AllByRecursion as Each, list_any, filter, range_with_len}
 use Rattle.std.proofs.lemmas.Bool.{and_parts, false≢true, ltb-true, eqb-true, eq-eqb, ne_eqb}
@@ -14,6 +14,8 @@ use Rattle.tp_spec.specs.Items.{all_items, item_before, kind_index, number}
 use Rattle.tp_spec.specs.Words.{is_start_of, is_end_of}
 use Rattle.tp_laws.proofs.EarlyLists.{Rising, in-left, in-right, each-in, each-map, range-rises}
 use Rattle.tp_laws.proofs.ClockActs.{each-append}
+use Rattle.tp_laws.proofs.Runs.{map-in}
+use Rattle.tp_laws.proofs.WordOfLists.{range-in}
 
 pub any-map : {A B : Type 0} (test : B → Bool) (f : A → B) (xs : List A) → list_any test (map f xs) ≡ list_any (λ x. test (f x)) xs
 any-map test f [] = refl
@@ -150,29 +152,17 @@ items-rise p =
     (each-of-map (λ x. Each (λ y. item_before x y ≡ true) starts) TimedAt (range_with_len 0 (length p.timed)) (each-all _ (range_with_len 0 (length p.timed)) (λ k. each-of-map (λ y. item_before (TimedAt k) y ≡ true) Start (range_with_len 0 (length p.actions)) (each-all _ (range_with_len 0 (length p.actions)) (λ a. refl)))))
     (each-of-map (λ x. Each (λ y. item_before x y ≡ true) starts) End (range_with_len 0 (length p.actions)) (each-all _ (range_with_len 0 (length p.actions)) (λ k. each-of-map (λ y. item_before (End k) y ≡ true) Start (range_with_len 0 (length p.actions)) (each-all _ (range_with_len 0 (length p.actions)) (λ a. refl))))))
 
-in-map : {A B : Type 0} (f : A → B) (x : A) (xs : List A) → IsIn x xs → IsIn (f x) (map f xs)
-in-map f x [] h = absurd h
-in-map f x (y ∷ xs) (inl e) = inl (ap f e)
-in-map f x (y ∷ xs) (inr h) = inr (in-map f x xs h)
-
-pub in-range : (a k n : ℕ) → k ≤ a → a < k + n → IsIn a (range_with_len k n)
-in-range a k zero le lt = absurd (omega (arith, le, lt))
-in-range a k (suc n) le lt = by_test (λ b. in-range a (k + 1) n b (omega (arith, lt))) (k == a) refl where
-  by_test : (k + 1 ≤ a → IsIn a (range_with_len (k + 1) n)) → (b : Bool) → (k == a) ≡ b → IsIn a (range_with_len k (suc n))
-  by_test again true e = inl (eqb-true k a e)
-  by_test again false e = inr (again (grind (arith, nat_tests)))
-
 pub timed-known : (p : Problem) (k : ℕ) → k < length p.timed → IsIn (TimedAt k) (all_items p)
 timed-known p k lt = in-left (TimedAt k) (map TimedAt (range_with_len 0 (length p.timed)) ++ map End (range_with_len 0 (length p.actions))) (map Start (range_with_len 0 (length p.actions)))
-    (in-left (TimedAt k) (map TimedAt (range_with_len 0 (length p.timed))) (map End (range_with_len 0 (length p.actions))) (in-map TimedAt k (range_with_len 0 (length p.timed)) (in-range k 0 (length p.timed) (omega arith) (omega (arith, lt)))))
+    (in-left (TimedAt k) (map TimedAt (range_with_len 0 (length p.timed))) (map End (range_with_len 0 (length p.actions))) (map-in TimedAt k (range_with_len 0 (length p.timed)) (range-in k 0 (length p.timed) (omega arith) (omega (arith, lt)))))
 
 pub end-known : (p : Problem) (a : ℕ) → a < length p.actions → IsIn (End a) (all_items p)
 end-known p a lt = in-left (End a) (map TimedAt (range_with_len 0 (length p.timed)) ++ map End (range_with_len 0 (length p.actions))) (map Start (range_with_len 0 (length p.actions)))
-    (in-right (End a) (map TimedAt (range_with_len 0 (length p.timed))) (map End (range_with_len 0 (length p.actions))) (in-map End a (range_with_len 0 (length p.actions)) (in-range a 0 (length p.actions) (omega arith) (omega (arith, lt)))))
+    (in-right (End a) (map TimedAt (range_with_len 0 (length p.timed))) (map End (range_with_len 0 (length p.actions))) (map-in End a (range_with_len 0 (length p.actions)) (range-in a 0 (length p.actions) (omega arith) (omega (arith, lt)))))
 
 pub start-known : (p : Problem) (a : ℕ) → a < length p.actions → IsIn (Start a) (all_items p)
 start-known p a lt = in-right (Start a) (map TimedAt (range_with_len 0 (length p.timed)) ++ map End (range_with_len 0 (length p.actions))) (map Start (range_with_len 0 (length p.actions)))
-    (in-map Start a (range_with_len 0 (length p.actions)) (in-range a 0 (length p.actions) (omega arith) (omega (arith, lt))))
+    (map-in Start a (range_with_len 0 (length p.actions)) (range-in a 0 (length p.actions) (omega arith) (omega (arith, lt))))
 
 -- what comes later in a list of rising ticks is later
 pub later-tick : (t : ℕ) (xs : List TimedItem) → each_next (λ x y. nat_lt x.tick y.tick) xs ≡ true → (j k : ℕ) → j ≤ k → (i : TimedItem) → slice_get xs k ≡ Some i → IfSome (slice_get xs j) (λ y. t < y.tick) → t < i.tick

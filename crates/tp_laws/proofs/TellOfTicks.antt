@@ -2,7 +2,7 @@
 use Rattle.std.proofs.Common.{◌≡◌, refl, sym, ap, subst, ◌∙◌, ℕ, zero, suc, ◌+◌, ◌-◌, ◌<◌, ◌≤◌, ◌==◌, ◌⊎◌, inl, inr, Bool, true, false, not, ◌&&◌, cond, List, [], ◌∷◌, ◌++◌, length, Option, Some, None, arith, IsTrue, nat_lt, nat_le, append-nil}
 use Rattle.std.specs.Prelude.{slice_get, IfSome}
 use Rattle.std.specs.List.{list_any, list_all, range_with_len}
-use Rattle.std.proofs.lemmas.Bool.{and_parts, and_right, true≢false, false≢true, cases_lt, eqb-true, eqb-false, eq-eqb, ne_eqb, not-true, cases_order}
+use Rattle.std.proofs.lemmas.Bool.{and_parts, and_right, false≢true, cases_lt, eqb-true, eqb-false, eq-eqb, ne_eqb, not-true, cases_order}
 use Rattle.std.proofs.lemmas.Bool.Decides.{nat_tests}
 use Rattle.std.proofs.lemmas.Option.{slice_get_within}
 use Rattle.tp_spec.specs.declared.plan.Item.{Item}
@@ -24,7 +24,10 @@ use Rattle.tp_laws.specs.Clocks.{HasActsInGroups}
 use Rattle.tp_laws.specs.Plans.{AreHappenings, begins_timed, none_run, is_whole, is_complete, items_in}
 use Rattle.tp_laws.proofs.EarlyLists.{each-in, each-true, filter-none}
 use Rattle.tp_laws.proofs.ClockActs.{sound-acts}
-use Rattle.tp_laws.proofs.TellOfLists.{is_item, any-map, any-same, any-none, each-of, filter-is, items-strict, items-rise, in-any, any-in, in-range, later-tick}
+use Rattle.tp_laws.proofs.ClockCandidates.{past_end}
+use Rattle.tp_laws.proofs.ClockCommits.{in_get}
+use Rattle.tp_laws.proofs.WordOfLists.{range-in}
+use Rattle.tp_laws.proofs.TellOfLists.{is_item, any-map, any-same, any-none, each-of, filter-is, items-strict, items-rise, in-any, any-in, later-tick}
 use Rattle.tp_laws.proofs.TellOfItems.{has_in, open_count, still_runs}
 use Rattle.tp_laws.proofs.TellOfWords.{Tells, grouped, tells-sound}
 
@@ -72,24 +75,12 @@ closed_of a (x ∷ xs) z e (inl g) f = by_end x.closes refl (omega (arith, e)) w
   by_end (Some h) c k = (h, sym (ap (λ (y : Act). y.closes) g) ∙ c)
 closed_of a (x ∷ xs) z e (inr i) f = closed_of a xs z (omega (arith, e)) i f
 
-in-get : {A : Type 0} (xs : List A) (k : ℕ) (x : A) → slice_get xs k ≡ Some x → IsIn x xs
-in-get [] k x e = absurd (omega (arith, slice_get_within [] k x e))
-in-get {A} (y ∷ xs) zero x e = inl (some-is e) where
-  some-is : Some y ≡ Some x → y ≡ x
-  some-is e = ap (λ o. elim o as (λ _. A) [ Some z ↦ z | None ↦ y ]) e
-in-get (y ∷ xs) (suc k) x e = inr (in-get xs k x e)
-
-none-past : {A : Type 0} (xs : List A) (k : ℕ) → slice_get xs k ≡ None → length xs ≤ k
-none-past [] k e = omega arith
-none-past (x ∷ xs) zero e = absurd (true≢false (ap (λ o. elim o as (λ _. Bool) [ Some _ ↦ true | None ↦ false ]) e))
-none-past (x ∷ xs) (suc k) e = omega (arith, none-past xs k e)
-
 -- tests that agree on the groups find the same items
 has-same : (p : Problem) (w : List Mark) → HasActsInGroups p w → (q r : ℕ → Bool) → ((h : ℕ) → h < groups w → q h ≡ r h) → (i : Item) → has_in p (acts_of p w) (timed_of w) q i ≡ has_in p (acts_of p w) (timed_of w) r i
 has-same p w inside q r agree (TimedAt k) = by_place (slice_get (timed_of w) k) refl where
   by_place : (o : Option ℕ) → slice_get (timed_of w) k ≡ o → some_and o q ≡ some_and o r
   by_place None e = refl
-  by_place (Some h) e = agree h (inside.timed h (in-get (timed_of w) k h e))
+  by_place (Some h) e = agree h (inside.timed h (in_get (timed_of w) k h e))
 has-same p w inside q r agree (End a) = ap (λ b. is_durative p a && b) (any-same (λ z. z.action == a && some_and z.closes q) (λ z. z.action == a && some_and z.closes r) (acts_of p w) (each-of _ (acts_of p w) (λ z i. ap (λ b. z.action == a && b) (by_end z.closes (inside.closes z i))))) where
   by_end : (o : Option ℕ) → IfSome o (λ g. g < groups w) → some_and o q ≡ some_and o r
   by_end None h = refl
@@ -133,7 +124,7 @@ module _ (p : Problem) (l : Limits) (now : ℕ) (commits : List Timed) (w : List
       let parts = and_parts (closes p (progress p w) && none_run p (progress p w)) (list_all (holds (state_past p (progress p w))) p.goal) (and_parts (closes p (progress p w) && none_run p (progress p w) && list_all (holds (state_past p (progress p w))) p.goal) (not (is_empty w && begins_timed p)) whole).0 in
       let none : none_run p (progress p w) ≡ true = (and_parts (closes p (progress p w)) (none_run p (progress p w)) parts.0).1 in
       let each = each-true (λ a. not (runs_after p (progress p w) a)) (range_with_len 0 (length p.actions)) none in
-      not-true (runs_after p (progress p w) a) (each-in (λ a. not (runs_after p (progress p w) a) ≡ true) (range_with_len 0 (length p.actions)) a each (in-range a 0 (length p.actions) (omega arith) (omega (arith, b))))
+      not-true (runs_after p (progress p w) a) (each-in (λ a. not (runs_after p (progress p w) a) ≡ true) (range_with_len 0 (length p.actions)) a each (range-in a 0 (length p.actions) (omega arith) (omega (arith, b))))
 
   -- each act has an end
   all-closed : (z : Act) → IsIn z (acts_of p w) → (h : ℕ) × (z.closes ≡ Some h)
@@ -171,8 +162,8 @@ module _ (p : Problem) (l : Limits) (now : ℕ) (commits : List Timed) (w : List
   stands-has t le (TimedAt k) = by_place (slice_get (timed_of w) k) refl (slice_get p.timed k) refl (is.timed k) where
     by_place : (o : Option ℕ) → slice_get (timed_of w) k ≡ o → (q : Option TimedItem) → slice_get p.timed k ≡ q → IfSome o (λ g. IfSome q (λ i. x.tick g ≡ i.tick)) → some_and q (λ y. y.tick == t) ≡ some_and o (λ h. x.tick h == t)
     by_place None e None f h = refl
-    by_place None e (Some y) f h = ne_eqb y.tick t (λ s. omega (arith, s, later-tick t p.timed sorted (length (timed_of w)) k (none-past (timed_of w) k e) y f (next-late t le)))
-    by_place (Some g) e None f h = absurd (omega (arith, slice_get_within (timed_of w) k g e, told.bounded, none-past p.timed k f))
+    by_place None e (Some y) f h = ne_eqb y.tick t (λ s. omega (arith, s, later-tick t p.timed sorted (length (timed_of w)) k (past_end (timed_of w) k e) y f (next-late t le)))
+    by_place (Some g) e None f h = absurd (omega (arith, slice_get_within (timed_of w) k g e, told.bounded, past_end p.timed k f))
     by_place (Some g) e (Some y) f h = ap (λ (n : ℕ). n == t) (sym h)
   stands-has t le (End a) = ap (λ b. is_durative p a && b) (any-map (λ y. y.action == a && y.start + y.length == t) (timed_act x) (acts_of p w)
       ∙ any-same (λ z. z.action == a && x.tick z.opens + (finish x z - x.tick z.opens) == t) (λ z. z.action == a && some_and z.closes (λ h. x.tick h == t)) (acts_of p w) (each-of _ (acts_of p w) same))

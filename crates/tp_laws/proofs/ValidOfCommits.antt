@@ -9,8 +9,8 @@ use Rattle.tp_spec.specs.Courses.{same_act, has_act}
 use Rattle.tp_spec.specs.Words.{Act}
 use Rattle.tp_spec.specs.Schedules.{Schedule, IsOnTime, finish, timed_act, acts_by, commits_by, awaited, without_first}
 use Rattle.tp_laws.proofs.EarlyLists.{true-each}
-use Rattle.tp_laws.proofs.Runs.{in-filter as in-filtered, map-in}
-use Rattle.tp_laws.proofs.StartMarks.{in-filter}
+use Rattle.tp_laws.proofs.Runs.{in-filter, map-in}
+use Rattle.tp_laws.proofs.WordOfLists.{filter-in}
 use Rattle.tp_laws.proofs.ClockCommits.{in_get}
 use Rattle.tp_laws.proofs.ClockActs.{there}
 use Rattle.tp_laws.proofs.ClockCandidates.{past_end}
@@ -62,7 +62,7 @@ module _ (x : Schedule) (now : ℕ) (acts : List Act) (commits : List Timed) whe
 
   met : awaited acts commits ≡ [] → AreOnTime → (c : Timed) → IsIn c commits → Met c
   met none on c i =
-      let place : (k : ℕ) × (slice_get (commits_by c.action commits) k ≡ Some c) × (k < length (commits_by c.action commits)) = place-of (commits_by c.action commits) c (in-filter (λ d. d.action == c.action) commits c i (eq-eqb c.action c.action refl)) in
+      let place : (k : ℕ) × (slice_get (commits_by c.action commits) k ≡ Some c) × (k < length (commits_by c.action commits)) = place-of (commits_by c.action commits) c (filter-in (λ d. d.action == c.action) commits c i (eq-eqb c.action c.action refl)) in
       let few : length (commits_by c.action commits) ≤ length (acts_by c.action acts) = enough acts commits none c.action in
       let act : (a : Act) × (slice_get (acts_by c.action acts) place.0 ≡ Some a) = there (acts_by c.action acts) place.0 (omega (arith, few, place.2)) in
       let time : IsOnTime x now act.0 (Some c) = subst (IsOnTime x now act.0) place.1 (subst (λ o. IfSome o (λ a. IsOnTime x now a (slice_get (commits_by c.action commits) place.0))) act.1 (on c.action place.0)) in
@@ -71,7 +71,7 @@ module _ (x : Schedule) (now : ℕ) (acts : List Act) (commits : List Timed) whe
   met-in : (c : Timed) (m : Met c) → IsIn m.act acts × (m.act.action ≡ c.action)
   met-in c m =
       let i : IsIn m.act (acts_by c.action acts) = in_get (acts_by c.action acts) m.place m.act m.is in
-      (in-filtered (λ y. y.action == c.action) m.act acts i, eqb-true m.act.action c.action (filter-passes (λ y. y.action == c.action) acts m.act i))
+      (in-filter (λ y. y.action == c.action) m.act acts i, eqb-true m.act.action c.action (filter-passes (λ y. y.action == c.action) acts m.act i))
 
   -- each commitment is an act of the plan
   pub has-commits : awaited acts commits ≡ [] → AreOnTime → list_all (has_act (map (timed_act x) acts)) commits ≡ true
@@ -105,7 +105,7 @@ module _ (x : Schedule) (now : ℕ) (acts : List Act) (commits : List Timed) whe
     committed a c i s f =
         let same : c.action ≡ a.action = eqb-true c.action a.action (filter-passes (λ d. d.action == a.action) commits c i) in
         let lasts : finish x a - x.tick a.opens ≡ c.length = omega (arith, s, f) in
-        or_left _ _ (any-true (same_act (timed_act x a)) commits c (in-filtered (λ d. d.action == a.action) c commits i)
+        or_left _ _ (any-true (same_act (timed_act x a)) commits c (in-filter (λ d. d.action == a.action) c commits i)
         (and_from _ _ (and_from _ _ (eq-eqb a.action c.action (sym same)) (eq-eqb (x.tick a.opens) c.start s)) (eq-eqb (finish x a - x.tick a.opens) c.length lasts)))
 
     free : (a : Act) → now ≤ x.tick a.opens → ((c : Timed) → IsIn c commits → c.action ≡ a.action → c.start < x.tick a.opens) → is_later (timed_act x a) ≡ true
@@ -116,7 +116,7 @@ module _ (x : Schedule) (now : ℕ) (acts : List Act) (commits : List Timed) whe
 
     one : (a : Act) → IsIn a acts → is_later (timed_act x a) ≡ true
     one a i =
-        let place : (k : ℕ) × (slice_get (acts_by a.action acts) k ≡ Some a) × (k < length (acts_by a.action acts)) = place-of (acts_by a.action acts) a (in-filter (λ y. y.action == a.action) acts a i (eq-eqb a.action a.action refl)) in
+        let place : (k : ℕ) × (slice_get (acts_by a.action acts) k ≡ Some a) × (k < length (acts_by a.action acts)) = place-of (acts_by a.action acts) a (filter-in (λ y. y.action == a.action) acts a i (eq-eqb a.action a.action refl)) in
         let time : IsOnTime x now a (slice_get (commits_by a.action commits) place.0) = subst (λ o. IfSome o (λ act. IsOnTime x now act (slice_get (commits_by a.action commits) place.0))) place.1 (on a.action place.0) in
         by_commit place.0 place.1 (slice_get (commits_by a.action commits) place.0) refl time
       where

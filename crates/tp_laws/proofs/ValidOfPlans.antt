@@ -1,7 +1,7 @@
 -- The plan of a sound and complete word and one of its schedules is possible.
 use Rattle.std.proofs.Common.{◌≡◌, refl, sym, ap, subst, ◌∙◌, ℕ, zero, suc, ◌+◌, ◌-◌, ◌<◌, ◌≤◌, ◌==◌, ◌⊎◌, inl, inr, Bool, true, false, not, ◌&&◌, ◌||◌, cond, List, [], ◌∷◌, map, length, Option, Some, None, arith, IsTrue, nat_lt, nat_le}
 use Rattle.std.specs.List.{AllByRecursion as Each, list_all, range_with_len}
-use Rattle.std.proofs.lemmas.Bool.{and_parts, and_from, or_left, or_right, false≢true, eqb-true, eqb-false, eq-eqb, lt-ltb, le-leb}
+use Rattle.std.proofs.lemmas.Bool.{ltb-true, and_parts, and_from, or_left, or_right, false≢true, eqb-true, eqb-false, eq-eqb, lt-ltb, le-leb}
 use Rattle.std.proofs.lemmas.List.{length-map}
 use Rattle.tp_spec.specs.declared.plan.Item.TheVariants.{Start}
 use Rattle.tp_spec.specs.declared.plan.Limits.{Limits}
@@ -15,15 +15,42 @@ use Rattle.tp_spec.specs.Words.{Act, Sound, Follow, progress, state_past, closes
 use Rattle.tp_spec.specs.Schedules.{Schedule, IsSchedule, IsInLength, finish, timed_act, last_tick, awaited, plan_of}
 use Rattle.tp_laws.specs.Plans.{AreHappenings, GroupsAreHappenings, CompleteWordsAreSpelled, CompleteWordsArePossible, OfFormed, is_complete, none_run, items_from}
 use Rattle.tp_laws.proofs.EarlyLists.{each-in, each-map, each-true, true-each, next-from, pair-from, Rising}
-use Rattle.tp_laws.proofs.EarlyTold.{earlier}
-use Rattle.tp_laws.proofs.EarlyPlans.{in_order, once}
 use Rattle.tp_laws.proofs.Orders.{not-true}
-use Rattle.tp_laws.proofs.StartMarks.{in-range}
+use Rattle.tp_laws.proofs.WordOfLists.{range-in}
 use Rattle.tp_laws.proofs.ClockLaws.{ticks_rise}
 use Rattle.tp_laws.proofs.ValidOfLists.{Pairs, each-of, each-mapped, pairs-with, pairs-mapped, pairs-test}
 use Rattle.tp_laws.proofs.ValidOfStates.{Turn, Spells, of-actions, state-at, passes}
 use Rattle.tp_laws.proofs.ValidOfActs.{Behind, Placed, kept}
 use Rattle.tp_laws.proofs.ValidOfCommits.{Follows, has-commits, later-others}
+
+-- the strict order of a plan's acts
+abbrev earlier : Timed → Timed → Bool
+earlier x y = nat_lt x.start y.start || (x.start == y.start && nat_lt x.action y.action)
+
+earlier_cases : (x y : Timed) → earlier x y ≡ true → (x.start < y.start) ⊎ ((x.start ≡ y.start) × (x.action < y.action))
+earlier_cases x y h = by_test (nat_lt x.start y.start) refl h where
+  by_test : (b : Bool) → nat_lt x.start y.start ≡ b → (b || (x.start == y.start && nat_lt x.action y.action)) ≡ true → (x.start < y.start) ⊎ ((x.start ≡ y.start) × (x.action < y.action))
+  by_test true e k = inl (ltb-true x.start y.start e)
+  by_test false e k = inr (eqb-true x.start y.start (and_parts _ _ k).0, ltb-true x.action y.action (and_parts _ _ k).1)
+
+differ : (a b : ℕ) → a < b → (a == b) ≡ false
+differ a b lt = elim (a == b) as (λ c. (a == b) ≡ c → c ≡ false) [ true ↦ λ e. absurd (omega (arith, eqb-true a b e, lt)) | false ↦ λ e. refl ] refl
+
+in_order : (x y : Timed) → earlier x y ≡ true → act_before x y ≡ true
+in_order x y h = by_case (earlier_cases x y h) where
+  by_case : (x.start < y.start) ⊎ ((x.start ≡ y.start) × (x.action < y.action)) → act_before x y ≡ true
+  by_case (inl b) = ap (λ c. c || (x.start == y.start && (nat_lt x.action y.action || (x.action == y.action && nat_le x.length y.length)))) (lt-ltb x.start y.start b)
+  by_case (inr e) = or_right (nat_lt x.start y.start) _ (and_from _ _ (eq-eqb x.start y.start e.0) (ap (λ c. c || (x.action == y.action && nat_le x.length y.length)) (lt-ltb x.action y.action e.1)))
+
+once : (x y : Timed) → earlier x y ≡ true → not (x.action == y.action && x.start == y.start) ≡ true
+once x y h = by_case (earlier_cases x y h) where
+  never : (b : Bool) → not (b && false) ≡ true
+  never true = refl
+  never false = refl
+
+  by_case : (x.start < y.start) ⊎ ((x.start ≡ y.start) × (x.action < y.action)) → not (x.action == y.action && x.start == y.start) ≡ true
+  by_case (inl b) = ap (λ c. not (x.action == y.action && c)) (differ x.start y.start b) ∙ never (x.action == y.action)
+  by_case (inr e) = ap (λ c. not (c && x.start == y.start)) (differ x.action y.action e.1)
 
 -- a group of a word has an item
 some-items : (g n : ℕ) (w : List Mark) → n ≤ g → g < n + groups w → is_empty (items_from n g w) ≡ false
@@ -104,7 +131,7 @@ module _ (p : Problem) (l : Limits) (now : ℕ) (commits : List Timed) (w : List
       known = of-actions p a.action (finish x a - x.tick a.opens) (is.lengths a i).allowed
 
       place : IsIn a.action (range_with_len 0 (length p.actions))
-      place = in-range (length p.actions) 0 a.action (omega arith) (omega (arith, known))
+      place = range-in a.action 0 (length p.actions) (omega arith) (omega (arith, known))
 
       still : runs_after p (progress p w) a.action ≡ false
       still = not-true (runs_after p (progress p w) a.action) (each-in (λ b. not (runs_after p (progress p w) b) ≡ true) (range_with_len 0 (length p.actions)) a.action (each-true (λ b. not (runs_after p (progress p w) b)) (range_with_len 0 (length p.actions)) whole.ended) place)

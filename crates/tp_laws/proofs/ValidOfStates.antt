@@ -23,7 +23,7 @@ use Rattle.tp_laws.proofs.Readings.{read_on-append, before-joining, group-joinin
 use Rattle.tp_laws.proofs.EarlyReading.{Opens, spelled-rest, follow-front, follow-back, grown, Chain, chain-to, marked-follow, only-apart}
 use Rattle.tp_laws.proofs.EarlyLists.{each-in, each-true, true-each, in-right}
 use Rattle.tp_laws.proofs.Runs.{map-in}
-use Rattle.tp_laws.proofs.StartMarks.{in-range, in-filter}
+use Rattle.tp_laws.proofs.WordOfLists.{range-in, filter-in}
 use Rattle.tp_laws.proofs.ValidOfLists.{Pairs, each-of, any-true}
 
 -- a group closes where a group or nothing comes next
@@ -77,7 +77,7 @@ closed-keeps p c a begun shut there runs = by_group (is_empty c.group) refl shut
   by_group : (b : Bool) → is_empty c.group ≡ b → (b || (has_after p c.before c.group && keeps_running p c)) ≡ true → list_all (holds (state_past p c)) (invariants p a) ≡ true
   by_group true e h = absurd (false≢true (sym (still c.group e (begun e a)) ∙ runs))
   by_group false e h =
-      let place : IsIn a (range_with_len 0 (length p.actions)) = in-range (length p.actions) 0 a (omega arith) (omega (arith, there)) in
+      let place : IsIn a (range_with_len 0 (length p.actions)) = range-in a 0 (length p.actions) (omega arith) (omega (arith, there)) in
       let all = each-true (λ b. not (runs_after p c b) || list_all (holds (state_past p c)) (invariants p b)) (range_with_len 0 (length p.actions)) (and_parts _ _ h).1 in
       either-of (not (runs_after p c a)) _ (not_from_true _ runs) (each-in (λ b. (not (runs_after p c b) || list_all (holds (state_past p c)) (invariants p b)) ≡ true) (range_with_len 0 (length p.actions)) a all place)
 
@@ -120,7 +120,7 @@ no-end test a (i ∷ is) e = by_test (no-end test a is e) (test i) refl where
 
 start-there : (p : Problem) (a : ℕ) → a < length p.actions → IsIn (Start a) (all_items p)
 start-there p a b =
-    let place : IsIn a (range_with_len 0 (length p.actions)) = in-range (length p.actions) 0 a (omega arith) (omega (arith, b)) in
+    let place : IsIn a (range_with_len 0 (length p.actions)) = range-in a 0 (length p.actions) (omega arith) (omega (arith, b)) in
     let others : List Item = map TimedAt (range_with_len 0 (length p.timed)) ++ map End (range_with_len 0 (length p.actions)) in
     in-right (Start a) others (map Start (range_with_len 0 (length p.actions))) (map-in Start a (range_with_len 0 (length p.actions)) place)
 
@@ -167,7 +167,7 @@ module _ (p : Problem) (acts : List Timed) where
   starts-here : (x : Timed) (t : ℕ) → Lasts x → x.start ≡ t → runs_after p (at (suc t)) x.action ≡ true
   starts-here x t h e =
       let stand : stands p acts t (Start x.action) ≡ true = any-true (λ y. y.action == x.action && y.start == t) acts x h.among (and_from _ _ (eq-eqb x.action x.action refl) (eq-eqb x.start t e)) in
-      let item : list_any (is_start_of x.action) (happening p acts t) ≡ true = any-true (is_start_of x.action) (happening p acts t) (Start x.action) (in-filter (stands p acts t) (all_items p) (Start x.action) (start-there p x.action h.known) stand) (eq-eqb x.action x.action refl) in
+      let item : list_any (is_start_of x.action) (happening p acts t) ≡ true = any-true (is_start_of x.action) (happening p acts t) (Start x.action) (filter-in (stands p acts t) (all_items p) (Start x.action) (start-there p x.action h.known) stand) (eq-eqb x.action x.action refl) in
       runs-next t x.action ∙ or_left _ _ (and_from _ _ item h.durative)
 
   -- it runs from the tick of its start on until its end

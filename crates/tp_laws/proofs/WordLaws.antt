@@ -21,6 +21,6 @@ word-laws p l formed = record {
   possible = words-possible groups-happen words-spelled p l formed;
 }
 
--- each front of a possible plan's word is live before the clock moves
+-- each front of a possible plan's word is live, at every clock and while nothing is dispatched
 pub fronts-live : OfFormed FrontsLive
-fronts-live p l formed plan front possible begins = (word-laws p l formed).fronts 0 [] plan front refl possible begins
+fronts-live p l formed now plan front possible begins = (word-laws p l formed).fronts now [] plan front refl possible begins

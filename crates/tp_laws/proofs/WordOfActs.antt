@@ -5,8 +5,7 @@ use Rattle.std.proofs.lemmas.Bool.{and_parts, and_from, or_cases, or_left, or_ri
 use Rattle.tp_spec.specs.declared.plan.Limits.{Limits}
 use Rattle.tp_spec.specs.declared.plan.Plan.{Plan}
 use Rattle.tp_spec.specs.declared.plan.Timed.{Timed}
-use Rattle.tp_spec.specs.declared.plan.Item.{Item}
-use Rattle.tp_spec.specs.declared.plan.Item.TheVariants.{TimedAt, End, Start}
+use Rattle.tp_spec.specs.declared.plan.Item.TheVariants.{End, Start}
 use Rattle.tp_spec.specs.declared.problem.Action.{Action}
 use Rattle.tp_spec.specs.declared.problem.Kind.{Kind}
 use Rattle.tp_spec.specs.declared.problem.Kind.TheVariants.{Instant, Durative}
@@ -14,8 +13,7 @@ use Rattle.tp_spec.specs.declared.problem.Problem.{Problem}
 use Rattle.tp_spec.specs.Lists.{IsIn, some_and}
 use Rattle.tp_spec.specs.WellFormed.{IsWellFormed, is_action, is_kind}
 use Rattle.tp_spec.specs.Items.{is_durative, is_durative_kind}
-use Rattle.tp_spec.specs.Courses.{Valid, stands, happening, in_range, allows_length}
-use Rattle.tp_laws.proofs.WordOfHappenings.{HasItem, happening-in, durative-below}
+use Rattle.tp_spec.specs.Courses.{Valid, stands, in_range, allows_length}
 use Rattle.tp_laws.proofs.WordOfLists.{same-tests, any-in, in-any, all-in, pair-in, some-below}
 
 -- A plan's acts: of the problem's actions, an instant one of length 0, a durative one of length 1 at
@@ -123,15 +121,6 @@ ends-at p acts t a h =
 
 pub at-ends : (p : Problem) (acts : List Timed) (t a : ℕ) → EndsAt p acts t a → stands p acts t (End a) ≡ true
 at-ends p acts t a r = and_from _ _ r.durative (in-any (λ x. x.action == a && x.start + x.length == t) acts r.act r.there (and_from _ _ (eq-eqb (r.act).action a r.of) (eq-eqb ((r.act).start + (r.act).length) t r.at)))
-
--- what stands at a tick is an item of the problem, so it is in the happening
-pub stands-item : (p : Problem) (acts : List Timed) (t : ℕ) (i : Item) → AreApart p acts → stands p acts t i ≡ true → HasItem p i
-stands-item p acts t (TimedAt k) fine h = some-below (λ x. x.tick == t) p.timed k h
-stands-item p acts t (End a) fine h = durative-below p a (ends-at p acts t a h).durative
-stands-item p acts t (Start a) fine h = let s = starts-at p acts t a h in subst (λ b. b < length p.actions) s.of (fine.there s.act s.there)
-
-pub stands-happens : (p : Problem) (acts : List Timed) (t : ℕ) (i : Item) → AreApart p acts → stands p acts t i ≡ true → IsIn i (happening p acts t)
-stands-happens p acts t i fine h = happening-in p acts t i (stands-item p acts t i fine h) h
 
 module _ (p : Problem) (acts : List Timed) (fine : AreApart p acts) where
   -- what has a length is durative

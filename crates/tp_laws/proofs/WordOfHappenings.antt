@@ -1,7 +1,7 @@
 -- What stands at a tick: which items, in which order, and how many of them are timed.
 use Rattle.std.proofs.Common.{◌≡◌, refl, sym, ap, subst, ◌∙◌, ◌⊎◌, inl, inr, ℕ, ◌+◌, ◌<◌, ◌==◌, Bool, true, ◌&&◌, List, [], ◌∷◌, ◌++◌, map, length, arith, nat_lt}
 use Rattle.std.specs.List.{AllByRecursion as Each, list_any, filter, range_with_len}
-use Rattle.std.proofs.lemmas.Bool.{and_parts, false≢true, eqb-true, eq-eqb, ltb-true}
+use Rattle.std.proofs.lemmas.Bool.{and_parts, false≢true, eqb-true, eq-eqb}
 use Rattle.std.proofs.lemmas.List.Elements.{filter-append}
 use Rattle.tp_spec.specs.declared.plan.Item.{Item}
 use Rattle.tp_spec.specs.declared.plan.Item.TheVariants.{TimedAt, End, Start}
@@ -11,10 +11,9 @@ use Rattle.tp_spec.specs.Lists.{IsIn}
 use Rattle.tp_spec.specs.Items.{all_items, item_before, is_durative, is_durative_kind}
 use Rattle.tp_spec.specs.Courses.{stands, happening}
 use Rattle.tp_spec.specs.Words.{is_start_of, is_end_of, timed_count}
-use Rattle.tp_laws.proofs.EarlyLists.{Rising, each-in, rising-filter, range-rises, in-left, in-right, filter-map}
-use Rattle.tp_laws.proofs.EarlyStarts.{starts-rise}
+use Rattle.tp_laws.proofs.EarlyLists.{Rising, rising-filter, range-rises, in-left, in-right, filter-map}
 use Rattle.tp_laws.proofs.Runs.{in-filter, in-append, in-map, map-in}
-use Rattle.tp_laws.proofs.WordOfLists.{same-tests, any-in, in-any, filter-in, filter-passes, range-in, in-range, count-places, some-below, rising-append, rising-around}
+use Rattle.tp_laws.proofs.WordOfLists.{same-tests, any-in, in-any, filter-in, filter-passes, range-in, in-range, count-places, some-below, rising-append}
 
 -- which items a problem has
 abbrev pub HasItem : Problem → Item → Type 0
@@ -84,7 +83,7 @@ kind-rises f (x ∷ xs) k r = (each_above xs x f k r.0, kind-rises f xs k r.1)
 pub items-rise : (p : Problem) → Rising item_before (all_items p)
 items-rise p = rising-append item_before (ticks ++ ends) (map Start actions)
     (rising-append item_before ticks ends (kind-rises TimedAt times (λ y z h. h) (range-rises 0 (length p.timed))) (kind-rises End actions (λ y z h. h) (range-rises 0 (length p.actions))) ticks_first)
-    (starts-rise actions (range-rises 0 (length p.actions)))
+    (kind-rises Start actions (λ y z h. h) (range-rises 0 (length p.actions)))
     starts_last
   where
     times : List ℕ
@@ -125,18 +124,6 @@ items-rise p = rising-append item_before (ticks ++ ends) (map Start actions)
 
 pub happening-rises : (p : Problem) (acts : List Timed) (t : ℕ) → Rising item_before (happening p acts t)
 happening-rises p acts t = rising-filter item_before (stands p acts t) (all_items p) (items-rise p)
-
--- no item is before itself
-pub before-other : (i : Item) → item_before i i ≡ true → ⊥
-before-other (TimedAt k) h = omega (arith, ltb-true k k h)
-before-other (End a) h = omega (arith, ltb-true a a h)
-before-other (Start a) h = omega (arith, ltb-true a a h)
-
--- so it stands once among items that rise
-pub once-around : (u : List Item) (i : Item) (v : List Item) → Rising item_before (u ++ i ∷ v) → ¬ (IsIn i u) × ¬ (IsIn i v)
-once-around u i v r =
-    let around = rising-around item_before u i v r in
-    (λ j. before-other i (each-in (λ k. item_before k i ≡ true) u i around.0 j), λ j. before-other i (each-in (λ k. item_before i k ≡ true) v i around.1 j))
 
 -- whether a start, or an end, is among items
 pub start-of : (a : ℕ) (i : Item) → is_start_of a i ≡ true → Start a ≡ i

@@ -1,7 +1,7 @@
 -- Lists by recursion: what a test finds, pairs in either order, and the numbers from 0 on.
 use Rattle.std.proofs.Common.{◌≡◌, refl, sym, ap, subst, ◌∙◌, ◌⊎◌, inl, inr, ℕ, zero, suc, ◌+◌, ◌<◌, ◌≤◌, Bool, true, false, cond, List, [], ◌∷◌, ◌++◌, map, length, arith, slice_get}
 use Rattle.std.specs.List.{AllByRecursion as Each, list_any, list_all, filter, range_with_len}
-use Rattle.std.proofs.lemmas.Bool.{and_parts, and_from, or_cases, cases_lt, or_left, or_right, or_from, false≢true}
+use Rattle.std.proofs.lemmas.Bool.{and_parts, and_from, or_cases, cases_lt, or_left, or_right, false≢true}
 use Rattle.tp_spec.specs.Lists.{IsIn, each_pair, each_next, some_and}
 use Rattle.tp_laws.proofs.EarlyLists.{Rising, each-map, filter-map}
 
@@ -36,10 +36,6 @@ in-all test (y ∷ xs) h = and_from _ _ (h y (inl refl)) (in-all test xs (λ x i
 pub in-each : {A : Type 0} (P : A → Type 0) (xs : List A) → ((x : A) → IsIn x xs → P x) → Each P xs
 in-each P [] h = tt
 in-each P (y ∷ xs) h = (h y (inl refl), in-each P xs (λ x i. h x (inr i)))
-
-pub each-none : {A : Type 0} (test : A → Bool) (xs : List A) → Each (λ x. test x ≡ false) xs → list_any test xs ≡ false
-each-none test [] h = refl
-each-none test (x ∷ xs) h = or_from (test x) (list_any test xs) h.0 (each-none test xs h.1)
 
 -- two members are one, or related in the order in which they stand
 pub pair-in : {A : Type 0} (related : A → A → Bool) (xs : List A) (x y : A) → each_pair related xs ≡ true → IsIn x xs → IsIn y xs → (x ≡ y) ⊎ ((related x y ≡ true) ⊎ (related y x ≡ true))
@@ -135,14 +131,6 @@ rising-around {A} lt (y ∷ u) x v r = let rest = rising-around lt u x v r.1 in 
   middle : (u : List A) → Each (λ z. lt y z ≡ true) (u ++ x ∷ v) → lt y x ≡ true
   middle [] h = h.0
   middle (z ∷ u) h = middle u h.1
-
-pub each-left : {A : Type 0} (P : A → Type 0) (u v : List A) → Each P (u ++ v) → Each P u
-each-left P [] v h = tt
-each-left P (x ∷ u) v h = (h.0, each-left P u v h.1)
-
-pub each-right : {A : Type 0} (P : A → Type 0) (u v : List A) → Each P (u ++ v) → Each P v
-each-right P [] v h = h
-each-right P (x ∷ u) v h = each-right P u v h.1
 
 -- two lists that rise, the first below the second
 pub rising-append : {A : Type 0} (lt : A → A → Bool) (u v : List A) → Rising lt u → Rising lt v → ((x y : A) → IsIn x u → IsIn y v → lt x y ≡ true) → Rising lt (u ++ v)

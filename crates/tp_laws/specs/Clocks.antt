@@ -1,5 +1,5 @@
 -- Laws on the schedules of words under clocks and commitments, timed items included.
-use Rattle.std.specs.Prelude.{◌≡◌, ◌↔◌, ℕ, ◌≤◌, ◌<◌, List, [], ◌++◌, Option, Some, None, IfSome, slice_get}
+use Rattle.std.specs.Prelude.{◌≡◌, ◌↔◌, ℕ, ◌+◌, ◌≤◌, ◌<◌, min, List, [], ◌++◌, Option, Some, None, IfSome, slice_get}
 use Rattle.tp_spec.specs.declared.plan.Limits.{Limits}
 use Rattle.tp_spec.specs.declared.plan.Mark.{Mark}
 use Rattle.tp_spec.specs.declared.plan.Timed.{Timed}
@@ -7,7 +7,7 @@ use Rattle.tp_spec.specs.declared.problem.Action.{Action}
 use Rattle.tp_spec.specs.declared.problem.Problem.{Problem}
 use Rattle.tp_spec.specs.Lists.{IsIn}
 use Rattle.tp_spec.specs.Words.{Act, Sound, groups, acts_of, timed_of}
-use Rattle.tp_spec.specs.Schedules.{Schedule, IsSchedule, IsGreatest, Live}
+use Rattle.tp_spec.specs.Schedules.{Schedule, IsSchedule, IsGreatest, IsLeast, Live}
 use Rattle.tp_spec.specs.Machine.{candidate}
 
 -- what holds of each word, under all limits and commitments
@@ -54,6 +54,32 @@ last_clock x (Some a) = Some (x.tick a.opens)
 abbrev pub GreatestTells : Problem → Limits → List Timed → List Mark → Type 0
 GreatestTells p l c w = (x : Schedule) → Sound p w → IsGreatest p l 0 c w x
     → TellsLive p l c w (last_clock x (candidate [] c (acts_of p w)))
+
+-- The last clock at which a word is live under some commitments, as far as the machine's clock
+-- goes, which stops one tick past the horizon.
+pub record IsDeadline (p : Problem) (l : Limits) (c : List Timed) (w : List Mark) (deadline : ℕ)
+    : Type 0 where
+  pub within : deadline ≤ l.horizon + 1
+  pub tells : (now : ℕ) → now ≤ l.horizon + 1 → Live p l now c w ↔ now ≤ deadline
+
+-- one past the horizon where a word is live at every clock
+abbrev pub deadline_of : Limits → Option ℕ → ℕ
+deadline_of l None = l.horizon + 1
+deadline_of l (Some t) = min t (l.horizon + 1)
+
+-- In the greatest schedule at clock 0 the tick of the first start that is no commitment is the
+-- word's deadline.
+abbrev pub GreatestGivesDeadline : Problem → Limits → List Timed → List Mark → Type 0
+GreatestGivesDeadline p l c w = (x : Schedule) → Sound p w → IsGreatest p l 0 c w x
+    → IsDeadline p l c w (deadline_of l (last_clock x (candidate [] c (acts_of p w))))
+
+-- A live word has a greatest schedule at every clock ..
+abbrev pub LiveHasGreatest : Problem → Limits → List Timed → List Mark → Type 0
+LiveHasGreatest p l c w = (now : ℕ) → Live p l now c w → (x : Schedule) × IsGreatest p l now c w x
+
+-- .. and a least one.
+abbrev pub LiveHasLeast : Problem → Limits → List Timed → List Mark → Type 0
+LiveHasLeast p l c w = (now : ℕ) → Live p l now c w → (x : Schedule) × IsLeast p l now c w x
 
 -- a word's acts are of its problem's actions and lie in its groups, as its timed items do
 pub record HasActsInGroups (p : Problem) (w : List Mark) : Type 0 where

@@ -1,7 +1,7 @@
 pub mod Examples
 pub mod Laws
-pub mod Early
 pub mod Clocks
 pub mod Histories
-pub mod Starts
 pub mod Plans
+pub mod Instants
+pub mod InstantExamples

@@ -59,6 +59,12 @@ FrontsAreLive p l = (now : ℕ) (commits : List Timed) (plan : Plan) (front : Li
     → AreInTurn commits → Possible p l now commits plan → BeginsWith (spell p plan) front
     → Live p l now commits front
 
+-- A word that is not live begins no possible plan's word.
+abbrev pub DeadIsHopeless : Problem → Limits → Type 0
+DeadIsHopeless p l = (now : ℕ) (commits : List Timed) (w : List Mark) → AreInTurn commits
+    → ¬ (Live p l now commits w)
+    → (plan : Plan) → Possible p l now commits plan → ¬ (BeginsWith (spell p plan) w)
+
 -- A possible plan is the one of its word and some schedule of it ..
 abbrev pub PlansAreOfWords : Problem → Limits → Type 0
 PlansAreOfWords p l = (now : ℕ) (commits : List Timed) (plan : Plan)

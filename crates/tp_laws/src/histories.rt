@@ -8,8 +8,9 @@ pub fn histories_in_parts()
     ensures legal { LegalInParts }
 {}
 
-/// In each state of a run the clock stands, nothing is dispatched, ids tell nodes apart, words are
-/// live and no longer than their ids, possible plans are covered, and ids are in bounds.
+/// In each state of a run nothing is dispatched, the clock is within the horizon and one tick, ids
+/// tell nodes apart, words were live at first and are no longer than their ids, the plans that are
+/// still possible are covered, and ids are in bounds.
 pub fn states_of_runs()
     ensures { OfFormed RunsLeadToTrees }
 {}

@@ -3,23 +3,26 @@
 #![tactic(auto)]
 
 mod clocks;
-mod early;
 mod examples;
 mod histories;
+mod instants;
 mod laws;
 mod plans;
-mod starts;
 
-pub use clocks::{acts_of_sound_words, earlier_clocks, one_tick_tells};
-pub use early::{covered_plans, live_marks, live_words, plain_problems, plans_of_words};
+pub use clocks::{
+    acts_of_sound_words, deadlines_of_words, earlier_clocks, extreme_schedules, one_tick_tells,
+};
 pub use examples::{
     busy_histories, goal_at_start, invariants_given_together, printed_texts, spelled_words,
     states_after, unsafe_plans,
 };
 pub use histories::{histories_in_parts, states_of_runs, takes_of_nodes};
+pub use instants::{
+    deadlines_of_instants, empty_word, outlooks_by_mark, starts_among_timed_items,
+    starts_at_the_horizon,
+};
 pub use laws::{end_of_word, nothing_happens, order_of_items, states_read};
 pub use plans::{
-    fronts_of_plans, laws_of_words, plans_are_of_words, possible_plans, spelled_plans,
-    words_of_plans,
+    fronts_of_plans, hopeless_words, laws_of_words, plans_are_of_words, possible_plans,
+    spelled_plans, words_of_plans,
 };
-pub use starts::live_starts;

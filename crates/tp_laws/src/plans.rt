@@ -1,4 +1,4 @@
-ghost use Rattle.tp_laws.specs.Plans.{OfFormed, WordsOfPlansAreSound, WordsOfPlansAreWhole, FrontsAreLive, PlansAreOfWords, WordsOfPlansAreComplete, GroupsAreHappenings, CompleteWordsAreSpelled, CompleteWordsArePossible, WordLaws};
+ghost use Rattle.tp_laws.specs.Plans.{OfFormed, WordsOfPlansAreSound, WordsOfPlansAreWhole, FrontsAreLive, DeadIsHopeless, PlansAreOfWords, WordsOfPlansAreComplete, GroupsAreHappenings, CompleteWordsAreSpelled, CompleteWordsArePossible, WordLaws};
 
 /// The word of a valid plan is sound and whole.
 pub fn words_of_plans()
@@ -11,6 +11,13 @@ pub fn fronts_of_plans()
     ensures { OfFormed FrontsAreLive }
 {
     words_of_plans();
+}
+
+/// A word that is not live begins no possible plan's word.
+pub fn hopeless_words()
+    ensures { OfFormed DeadIsHopeless }
+{
+    fronts_of_plans();
 }
 
 /// A possible plan is the one of its word and some schedule of it, and its word is complete.
