@@ -1,4 +1,7 @@
+pub mod Chain
+pub mod Children
+pub mod Growing
 pub mod Keeping
 pub mod Nodes
-pub mod Queues
+pub mod Places
 pub mod Words

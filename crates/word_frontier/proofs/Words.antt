@@ -1,7 +1,6 @@
 -- How words grow, and what the word of an id is made of.
-use Rattle.std.proofs.Common.{◌≡◌, ℕ, zero, suc, ◌+◌, ◌<◌, ◌≤◌, List, [], ◌∷◌, ◌++◌, length, get_or, refl, sym, ap, subst, arith, ◌∙◌, append_assoc, length-append, inl, inr}
-use Rattle.std.specs.Prelude.{reverse}
-use Rattle.std.proofs.lemmas.List.{reverse-append, get_or_append_left}
+use Rattle.std.proofs.Common.{◌≡◌, ℕ, zero, suc, ◌+◌, ◌-◌, ◌<◌, ◌≤◌, List, [], ◌∷◌, ◌++◌, length, get_or, set, drop, refl, sym, ap, subst, arith, ◌∙◌, append_assoc, length-append, inl, inr}
+use Rattle.std.proofs.lemmas.List.{drop-set, get_or_append_left}
 use Rattle.std.proofs.Math.Seq.{get_or-append_seam}
 use Rattle.std.proofs.lemmas.Bool.{cases_lt}
 use Rattle.tp_spec.specs.declared.plan.Mark.{Mark}
@@ -10,7 +9,7 @@ use Rattle.std.specs.Prelude.{map}
 use Rattle.word_frontier.specs.declared.slot.Slot.{Slot}
 use Rattle.std.specs.Prelude.{Some}
 use Rattle.std.proofs.lemmas.Option.{slice_get_within, get_or_from_slice_get}
-use Rattle.word_frontier.proofs.Queues.{some_same}
+use Rattle.word_frontier.proofs.Places.{item-of, map-get, some_same}
 use Rattle.word_frontier.specs.Slots.{Step, step_of, word_of, words_from, words_of, GoBack}
 
 pub words-push : (words : List (List Mark)) (links : List Step) (l : Step) → words_from words (links ++ l ∷ []) ≡ words_from words links ++ (word_of (words_from words links) l.parent ++ l.mark ∷ []) ∷ []
@@ -86,22 +85,7 @@ back-push steps s back lt n t h = elim (cases_lt (suc n) (length steps)) [
       subst (λ (k : Step). k.parent ≤ n) e (omega (arith, is, lt))
 ]
 
--- the mark of a word, put before those behind it
-pub back-step : (steps : List Step) (at : ℕ) (s : Step) (ms new w : List Mark) → GoBack steps → 0 < at → slice_get steps at ≡ Some s → new ≡ ms ++ s.mark ∷ [] → word_of (words_of steps) at ++ reverse ms ≡ w → word_of (words_of steps) s.parent ++ reverse new ≡ w
-back-step steps zero s ms new w go some h is back = absurd (let z : ⊥ = omega arith in z)
-back-step steps (suc n) s ms new w go some h is back =
-    let words : List (List Mark) = words_of steps in
-    ap (λ (ys : List Mark). word_of words s.parent ++ reverse ys) is
-    ∙ ap (λ (ys : List Mark). word_of words s.parent ++ ys) (reverse-append ms (s.mark ∷ []))
-    ∙ sym (append_assoc (word_of words s.parent) (s.mark ∷ []) (reverse ms))
-    ∙ ap (λ (ys : List Mark). ys ++ reverse ms) (sym (words_of-step steps n s go h))
-    ∙ back
-
-pub back-end : (steps : List Step) (at : ℕ) (ms w : List Mark) → at ≤ 0 → word_of (words_of steps) at ++ reverse ms ≡ w → reverse ms ≡ w
-back-end steps at ms w le back =
-    let none : at ≡ 0 = omega arith in
-    let empty : word_of (words_of steps) at ≡ [] = ap (word_of (words_of steps)) none ∙ words_of-root steps in
-    sym (ap (λ (ys : List Mark). ys ++ reverse ms) empty) ∙ back
+-- steps back
 
 pub back-within : (steps : List Step) (at : ℕ) (s : Step) → GoBack steps → 0 < at → slice_get steps at ≡ Some s → s.parent < length steps
 back-within steps zero s go some h = absurd (let z : ⊥ = omega arith in z)
@@ -127,3 +111,43 @@ pub back-shortest : (steps : List Step) (at n m : ℕ) → at ≤ 0 → n + leng
 back-shortest steps at n m le is =
     let none : at ≡ 0 = omega arith in
     let empty = ap length (ap (word_of (words_of steps)) none ∙ words_of-root steps) in omega (arith, empty, is)
+
+-- a word that is written from its end on
+
+-- the mark of a word lies before those behind it
+pub fill-step : (steps : List Step) (at left : ℕ) (s : Step) (marks w : List Mark) → GoBack steps → 0 < at → slice_get steps at ≡ Some s → left + 1 ≡ length (word_of (words_of steps) at) → left < length marks
+    → word_of (words_of steps) at ++ drop (left + 1) marks ≡ w → word_of (words_of steps) s.parent ++ drop left (set marks left s.mark) ≡ w
+fill-step steps zero left s marks w go some h n within is = absurd (let z : ⊥ = omega arith in z)
+fill-step steps (suc at) left s marks w go some h n within is =
+    let words : List (List Mark) = words_of steps in
+    ap (λ (ys : List Mark). word_of words s.parent ++ ys) (drop-set marks left s.mark within)
+    ∙ sym (append_assoc (word_of words s.parent) (s.mark ∷ []) (drop (left + 1) marks))
+    ∙ ap (λ (ys : List Mark). ys ++ drop (left + 1) marks) (sym (words_of-step steps at s go h))
+    ∙ is
+
+-- a word that is not empty is one mark longer than its parent's
+pub fill-left : (steps : List Step) (at left : ℕ) (s : Step) → GoBack steps → 0 < at → slice_get steps at ≡ Some s → left ≡ length (word_of (words_of steps) at) → left ≡ length (word_of (words_of steps) s.parent) + 1
+fill-left steps zero left s go some h is = absurd (let z : ⊥ = omega arith in z)
+fill-left steps (suc at) left s go some h is =
+    let step = ap length (words_of-step steps at s go h) in
+    let more = length-append (word_of (words_of steps) s.parent) (s.mark ∷ []) in omega (arith, step, more, is)
+
+pub fill-end : (steps : List Step) (at left : ℕ) (marks w : List Mark) → at ≤ 0 → left ≡ length (word_of (words_of steps) at) → word_of (words_of steps) at ++ drop left marks ≡ w → marks ≡ w
+fill-end steps at left marks w le n is =
+    let none : at ≡ 0 = omega arith in
+    let empty : word_of (words_of steps) at ≡ [] = ap (word_of (words_of steps)) none ∙ words_of-root steps in
+    let zero-left : left ≡ 0 = n ∙ ap length empty in
+    sym (ap (λ (ys : List Mark). ys ++ drop left marks) empty ∙ ap (λ k. drop k marks) zero-left) ∙ is
+
+pub fill-back : (steps : List Step) (at left : ℕ) (s : Step) (mark : Mark) (marks w : List Mark) → GoBack steps → 0 < at → slice_get steps at ≡ Some s → left ≡ length (word_of (words_of steps) at) → left ≤ length marks
+    → mark ≡ s.mark → word_of (words_of steps) at ++ drop left marks ≡ w → word_of (words_of steps) s.parent ++ drop (left - 1) (set marks (left - 1) mark) ≡ w
+fill-back steps at left s mark marks w go some h n within m is =
+    let longer = fill-left steps at left s go some h n in
+    let one : left ≡ (left - 1) + 1 = omega (arith, longer) in
+    subst (λ (x : Mark). word_of (words_of steps) s.parent ++ drop (left - 1) (set marks (left - 1) x) ≡ w) (sym m)
+    (fill-step steps at (left - 1) s marks w go some h (sym one ∙ n) (omega (arith, longer, within)) (ap (λ k. word_of (words_of steps) at ++ drop k marks) (sym one) ∙ is))
+
+pub fill-some : (slots : List Slot) (at left : ℕ) → GoBack (map step_of slots) → 0 < at → at < length slots → left ≡ length (word_of (words_of (map step_of slots)) at) → 0 < left
+fill-some slots at left go some within n =
+    let s = item-of slots at within in
+    let longer = fill-left (map step_of slots) at left (step_of s.0) go some (map-get step_of slots at s.0 s.1) n in omega (arith, longer)

@@ -2,18 +2,22 @@
 use Rattle.std.specs.Prelude.{ℕ, suc, Bool, false, not, ◌&&◌, ◌||◌, ◌==◌, ◌≡◌, nat_lt, nat_le, List, [], ◌∷◌, ◌++◌, Option, Some, None, IsTrue, if◌then◌else◌, is_some}
 use Rattle.std.specs.List.{filter, list_all, list_any}
 use Rattle.tp_spec.specs.declared.plan.Mark.{Mark}
+use Rattle.word_frontier.specs.declared.child.Child.{Child}
+use Rattle.word_frontier.specs.declared.frontier.Standing.{Standing}
 use Rattle.tp_spec.specs.Lists.{IsIn, each_pair}
 
--- a word that the search tries, and its rank
+-- a word that the search tries, its rank, and its deadline: the last clock at which it is live
 pub record NodeView : Type 0 where
   pub word : List Mark
   pub rank : ℕ
+  pub deadline : ℕ
 
--- a node: its word and rank, and the actor that took it, or none while it is open
+-- a node: its word, rank and deadline, and the actor that took it, or none while it is open
 pub record RankedNode : Type 0 where
   pub id : ℕ
   pub word : List Mark
   pub rank : ℕ
+  pub deadline : ℕ
   pub taker : Option ℕ
 
 -- the nodes in order of ids, how many ids were given, below what all ranks are, and how many nodes
@@ -29,20 +33,24 @@ pub record AreApart (f : FrontierView) : Type 0 where
   pub rising : IsTrue (each_pair (λ m n. nat_lt m.id n.id) f.nodes)
   pub given : IsTrue (list_all (λ n. nat_lt n.id f.made) f.nodes)
 
--- a node that nobody took
-abbrev pub open_node : ℕ → NodeView → RankedNode
-open_node id node = record { id = id; word = node.word; rank = node.rank; taker = None }
-
 -- the open node of a word and one mark more
-abbrev pub child_of : ℕ → List Mark → Mark → ℕ → RankedNode
-child_of id w mark rank = record { id = id; word = w ++ mark ∷ []; rank = rank; taker = None }
+abbrev pub child_of : ℕ → List Mark → Child → RankedNode
+child_of id w c = record {
+  id = id;
+  word = w ++ c.mark ∷ [];
+  rank = c.rank;
+  deadline = c.deadline;
+  taker = None;
+}
 
--- one open node for each mark behind a word, with the next ids, and these ranks
-abbrev pub children_from : List Mark → ℕ → List Mark → List ℕ → List RankedNode
-children_from w made [] ranks = []
-children_from w made (a ∷ marks) [] = []
-children_from w made (a ∷ marks) (r ∷ ranks) =
-    child_of made w a r ∷ children_from w (suc made) marks ranks
+-- one open node for each child of a word, with the next ids
+abbrev pub children_from : List Mark → ℕ → List Child → List RankedNode
+children_from w made [] = []
+children_from w made (c ∷ rest) = child_of made w c ∷ children_from w (suc made) rest
+
+-- the children that are live at a clock
+abbrev pub live_at : ℕ → List Child → List Child
+live_at now children = filter (λ c. nat_le now c.deadline) children
 
 abbrev pub is_open : RankedNode → Bool
 is_open n = not (is_some n.taker)
@@ -54,15 +62,31 @@ open_nodes nodes = filter is_open nodes
 abbrev pub no_later : RankedNode → RankedNode → Bool
 no_later m n = nat_lt m.rank n.rank || (m.rank == n.rank && nat_le m.id n.id)
 
--- the open node of the least rank and id
-pub record IsLeastOpen (nodes : List RankedNode) (n : RankedNode) : Type 0 where
-  pub there : IsIn n (open_nodes nodes)
-  pub least : IsTrue (list_all (no_later n) (open_nodes nodes))
+-- the node of the least rank and id
+pub record IsLeast (nodes : List RankedNode) (n : RankedNode) : Type 0 where
+  pub there : IsIn n nodes
+  pub least : IsTrue (list_all (no_later n) nodes)
 
--- nothing where no node is open, else the least open one
-abbrev pub GivesLeast : List RankedNode → Option (ℕ × NodeView) → Type 0
-GivesLeast nodes None = open_nodes nodes ≡ []
-GivesLeast nodes (Some found) = IsLeastOpen nodes (open_node found.0 found.1)
+-- what is told of a node: its id and its deadline
+pub record Tells (found : Standing) (n : RankedNode) : Type 0 where
+  pub id : found.id ≡ n.id
+  pub deadline : found.deadline ≡ n.deadline
+
+-- nothing where there is no node, else the id and the deadline of the least one
+abbrev pub GivesLeast : List RankedNode → Option Standing → Type 0
+GivesLeast nodes None = nodes ≡ []
+GivesLeast nodes (Some found) = (n : RankedNode) × IsLeast nodes n × Tells found n
+
+-- the word, the rank and the deadline of a node of this id
+pub record IsCopy (nodes : List RankedNode) (id : ℕ) (v : NodeView) : Type 0 where
+  pub node : RankedNode
+  pub there : IsIn node nodes
+  pub id_is : node.id ≡ id
+  pub is : v ≡ record { word = node.word; rank = node.rank; deadline = node.deadline }
+
+-- whether a node of this id stands
+abbrev pub has_id : ℕ → List RankedNode → Bool
+has_id id nodes = list_any (λ n. n.id == id) nodes
 
 abbrev pub taken_by : ℕ → ℕ → RankedNode → RankedNode
 taken_by actor id n = if n.id == id then record n { taker = Some actor } else n

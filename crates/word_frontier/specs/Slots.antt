@@ -1,7 +1,6 @@
--- The slots and the queues of a frontier, and the nodes that they stand for.
-use Rattle.std.specs.Prelude.{◌≡◌, ℕ, suc, ◌<◌, ◌≤◌, ◌^◌, Bool, false, ◌==◌, cond, nat_eq, List, [], ◌∷◌, ◌++◌, length, map, Option, Some, None, slice_index_or}
+-- The slots and the heads of a frontier, and the nodes that they stand for.
+use Rattle.std.specs.Prelude.{◌≡◌, ◌≢◌, ℕ, suc, ◌<◌, ◌≤◌, ◌^◌, Bool, true, false, ◌==◌, cond, List, [], ◌∷◌, ◌++◌, length, map, Option, Some, None, slice_index_or}
 use Rattle.std.specs.List.{slice_get}
-use Rattle.std.specs.Option.{option_eq}
 use Rattle.tp_spec.specs.declared.plan.Item.{Item}
 use Rattle.tp_spec.specs.declared.plan.Item.TheVariants.{TimedAt, End, Start}
 use Rattle.tp_spec.specs.declared.plan.Mark.{Mark}
@@ -9,8 +8,9 @@ use Rattle.word_frontier.specs.declared.slot.Kind.{Kind}
 use Rattle.word_frontier.specs.declared.slot.Kind.TheVariants as kind
 use Rattle.word_frontier.specs.declared.slot.State.{State}
 use Rattle.word_frontier.specs.declared.slot.State.TheVariants.{Open, Taken, Gone}
+use Rattle.word_frontier.specs.declared.slot.Among.{Among}
+use Rattle.word_frontier.specs.declared.slot.Among.TheVariants as among
 use Rattle.word_frontier.specs.declared.slot.Slot.{Slot}
-use Rattle.word_frontier.specs.declared.slot.Queue.{Queue}
 use Rattle.word_frontier.specs.Nodes.{RankedNode}
 
 abbrev pub item_of : Kind → ℕ → Item
@@ -51,16 +51,31 @@ GoBack steps = (n : ℕ) (s : Step) → slice_get steps (suc n) ≡ Some s → s
 pub record Held : Type 0 where
   pub word : List Mark
   pub rank : ℕ
+  pub deadline : ℕ
   pub taker : Option ℕ
 
-abbrev pub held_of : State → List Mark → ℕ → ℕ → Option Held
-held_of Open w rank link = Some (record { word = w; rank = rank; taker = None })
-held_of Taken w rank link = Some (record { word = w; rank = rank; taker = Some link })
-held_of Gone w rank link = None
+abbrev pub taker_of : State → ℕ → Option ℕ
+taker_of Open taker = None
+taker_of Taken taker = Some taker
+taker_of Gone taker = None
+
+-- whether a node of this state is one of those that are meant
+abbrev pub counts : Among → State → Bool
+counts among.Open Open = true
+counts among.Open Taken = false
+counts among.Open Gone = false
+counts among.All Open = true
+counts among.All Taken = true
+counts among.All Gone = false
 
 -- what stands in a slot, where its node did not leave
 abbrev pub held : List Mark → Slot → Option Held
-held w s = held_of s.state w s.rank s.link
+held w s = cond (counts among.All s.state) (Some (record {
+  word = w;
+  rank = s.rank;
+  deadline = s.deadline;
+  taker = taker_of s.state s.taker;
+})) None
 
 abbrev pub helds : List (List Mark) → List Slot → List (Option Held)
 helds words [] = []
@@ -68,7 +83,13 @@ helds [] (s ∷ slots) = []
 helds (w ∷ words) (s ∷ slots) = held w s ∷ helds words slots
 
 abbrev pub node_in : ℕ → Held → RankedNode
-node_in id h = record { id = id; word = h.word; rank = h.rank; taker = h.taker }
+node_in id h = record {
+  id = id;
+  word = h.word;
+  rank = h.rank;
+  deadline = h.deadline;
+  taker = h.taker;
+}
 
 -- the nodes of slots, the first of which has this id
 abbrev pub nodes_from : ℕ → List (Option Held) → List RankedNode
@@ -82,94 +103,108 @@ helds_of slots = helds (words_of (map step_of slots)) slots
 abbrev pub nodes_of : List Slot → List RankedNode
 nodes_of slots = nodes_from 0 (helds_of slots)
 
--- the rank under which a slot waits, where it is open
-abbrev pub key_of : State → ℕ → Option ℕ
-key_of Open rank = Some rank
-key_of Taken rank = None
-key_of Gone rank = None
-
 -- whether this actor took what stands in a slot
 abbrev pub taken_in : State → ℕ → ℕ → Bool
-taken_in Open link actor = false
-taken_in Taken link actor = link == actor
-taken_in Gone link actor = false
+taken_in Open taker actor = false
+taken_in Taken taker actor = taker == actor
+taken_in Gone taker actor = false
 
-abbrev pub key : Slot → Option ℕ
-key s = key_of s.state s.rank
+-- the rank of a slot whose node is one of those that are meant
+abbrev pub key : Among → Slot → Option ℕ
+key a s = cond (counts a s.state) (Some s.rank) None
 
-abbrev pub keys : List Slot → List (Option ℕ)
-keys slots = map key slots
+abbrev pub keys : Among → List Slot → List (Option ℕ)
+keys a slots = map (key a) slots
 
-abbrev pub links : List Slot → List ℕ
-links slots = map (λ s. s.link) slots
+abbrev pub ranks_of : List Slot → List ℕ
+ranks_of slots = map (λ s. s.rank) slots
 
--- the first open id of a rank; the first slot has this id
-abbrev pub first_open : ℕ → ℕ → List (Option ℕ) → Option ℕ
-first_open rank id [] = None
-first_open rank id (None ∷ ks) = first_open rank (suc id) ks
-first_open rank id (Some r ∷ ks) = cond (r == rank) (Some id) (first_open rank (suc id) ks)
+abbrev pub links_of : List Slot → List ℕ
+links_of slots = map (λ s. s.link) slots
 
 abbrev pub or_else : Option ℕ → Option ℕ → Option ℕ
 or_else None other = other
 or_else (Some id) other = Some id
 
--- the last open id of a rank
-abbrev pub last_open : ℕ → ℕ → List (Option ℕ) → Option ℕ
-last_open rank id [] = None
-last_open rank id (None ∷ ks) = last_open rank (suc id) ks
-last_open rank id (Some r ∷ ks) =
-    or_else (last_open rank (suc id) ks) (cond (r == rank) (Some id) None)
+abbrev pub head_at : List (Option ℕ) → ℕ → Option ℕ
+head_at heads rank = slice_index_or heads rank None
 
-abbrev pub IsNext : ℕ → Option ℕ → Type 0
-IsNext link None = Unit {0}
-IsNext link (Some id) = link ≡ id
+-- no id from `k` on has this rank
+abbrev pub NoneFrom : ℕ → ℕ → List (Option ℕ) → Type 0
+NoneFrom r k ks = (j : ℕ) → k ≤ j → slice_get ks j ≡ Some (Some r) → ⊥
 
--- each open slot is linked to the next open one of its rank, where one comes
-abbrev pub AreLinked : ℕ → List (Option ℕ) → List ℕ → Type 0
-AreLinked id [] ls = Unit {0}
-AreLinked id (k ∷ ks) [] = ⊥
-AreLinked id (None ∷ ks) (l ∷ ls) = AreLinked (suc id) ks ls
-AreLinked id (Some r ∷ ks) (l ∷ ls) = IsNext l (first_open r (suc id) ks) × AreLinked (suc id) ks ls
+-- this is the first id from `k` on that has this rank
+pub record FirstAt (r k f : ℕ) (ks : List (Option ℕ)) : Type 0 where
+  pub from : k ≤ f
+  pub key : slice_get ks f ≡ Some (Some r)
+  pub before : (j : ℕ) → k ≤ j → j < f → slice_get ks j ≡ Some (Some r) → ⊥
 
-abbrev pub popped : ℕ → Queue → Queue
-popped next q =
-    cond (option_eq nat_eq q.first q.last) (record { first = None; last = None })
-    (record q { first = Some next })
+abbrev pub IsFirst : ℕ → ℕ → List (Option ℕ) → Option ℕ → Type 0
+IsFirst r k ks None = NoneFrom r k ks
+IsFirst r k ks (Some f) = FirstAt r k f ks
 
-abbrev pub pushed : ℕ → Queue → Queue
-pushed id q = record { first = or_else q.first (Some id); last = Some id }
+-- the first id of each rank
+abbrev pub AreHeads : List (Option ℕ) → List (Option ℕ) → Type 0
+AreHeads ks heads = (r : ℕ) → IsFirst r 0 ks (head_at heads r)
 
-abbrev pub first_of : Option Queue → Option ℕ
-first_of None = None
-first_of (Some q) = q.first
+-- the last id of a rank
+pub record LastAt (r t : ℕ) (ranks : List ℕ) : Type 0 where
+  pub key : slice_get ranks t ≡ Some r
+  pub behind : (j : ℕ) → slice_get ranks j ≡ Some r → j ≤ t
 
-abbrev pub last_of : Option Queue → Option ℕ
-last_of None = None
-last_of (Some q) = q.last
+abbrev pub IsLast : ℕ → List ℕ → Option ℕ → Type 0
+IsLast r ranks None = (j : ℕ) → slice_get ranks j ≡ Some r → ⊥
+IsLast r ranks (Some t) = LastAt r t ranks
 
--- the queues hold the open ids by rank, and none below the rank `least`
-pub record AreQueued (ks : List (Option ℕ)) (ls : List ℕ) (queues : List Queue) (least : ℕ)
-    : Type 0 where
-  pub first : (r : ℕ) → first_of (slice_get queues r) ≡ first_open r 0 ks
-  pub last : (r : ℕ) → last_of (slice_get queues r) ≡ last_open r 0 ks
-  pub linked : AreLinked 0 ks ls
-  pub below : (r : ℕ) → r < least → first_open r 0 ks ≡ None
+-- a link leads on in the rank, and passes over no id of it
+pub record Leads (ranks : List ℕ) (r k link j : ℕ) : Type 0 where
+  pub on : k < link
+  pub by : link ≤ j
+  pub key : slice_get ranks link ≡ Some r
 
--- slots, queues and counts keep together
-pub record IsKept (slots : List Slot) (queues : List Queue) (least standing : ℕ) : Type 0 where
+-- all ids of a rank are linked in order, and the last one is known
+pub record AreChained (ranks links : List ℕ) (lasts : List (Option ℕ)) : Type 0 where
+  pub linked : (r k j : ℕ) → k < j → slice_get ranks k ≡ Some r → slice_get ranks j ≡ Some r
+      → Leads ranks r k (slice_index_or links k 0) j
+  pub last : (r : ℕ) → IsLast r ranks (head_at lasts r)
+
+-- slots, last ids and heads keep together
+pub record IsKept (slots : List Slot) (lasts opens stands : List (Option ℕ)) : Type 0 where
   pub back : GoBack (map step_of slots)
   pub some : 0 < length slots
   pub few : length slots < 2 ^ 32
-  pub queued : AreQueued (keys slots) (links slots) queues least
-  pub counted : standing ≡ length (nodes_of slots)
+  pub chained : AreChained (ranks_of slots) (links_of slots) lasts
+  pub open_heads : AreHeads (keys among.Open slots) opens
+  pub heads : AreHeads (keys among.All slots) stands
+  pub open_ranks : length opens ≡ length lasts
+  pub ranks : length stands ≡ length lasts
 
--- from the rank `least` on, this rank is the first whose queue has a first id
-pub record FoundFirst (queues : List Queue) (least rank id : ℕ) : Type 0 where
-  pub is : first_of (slice_get queues rank) ≡ Some id
-  pub before : (r : ℕ) → least ≤ r → r < rank → first_of (slice_get queues r) ≡ None
+-- from a rank on, this one is the first that has an id, or none has
+pub record IsNextFull (heads : List (Option ℕ)) (from next : ℕ) : Type 0 where
+  pub before : (r : ℕ) → from ≤ r → r < next → head_at heads r ≡ None
+  pub full : slice_get heads next ≢ Some None
 
--- the first queue from a rank on that is not empty: its rank and its first id
-abbrev pub IsFirstFull : List Queue → ℕ → Option (ℕ × ℕ) → Type 0
-IsFirstFull queues least None =
-    (r : ℕ) → least ≤ r → first_of (slice_get queues r) ≡ None
-IsFirstFull queues least (Some found) = FoundFirst queues least found.0 found.1
+-- the least rank that has an id
+pub record LeastHead (heads : List (Option ℕ)) (rank id : ℕ) : Type 0 where
+  pub is : head_at heads rank ≡ Some id
+  pub before : (r : ℕ) → r < rank → head_at heads r ≡ None
+
+abbrev pub IsLeastHead : List (Option ℕ) → Option (ℕ × ℕ) → Type 0
+IsLeastHead heads None = (r : ℕ) → head_at heads r ≡ None
+IsLeastHead heads (Some found) = LeastHead heads found.0 found.1
+
+-- an id of this rank, if there is one
+abbrev pub IsOfRank : List ℕ → ℕ → Option ℕ → Type 0
+IsOfRank ranks r None = Unit {0}
+IsOfRank ranks r (Some id) = slice_get ranks id ≡ Some r
+
+-- the first id of a rank from another one on, where there is that other one
+abbrev pub IsFirstBehind : ℕ → List (Option ℕ) → Option ℕ → Option ℕ → Type 0
+IsFirstBehind r ks None o = o ≡ None
+IsFirstBehind r ks (Some id) o = IsFirst r id ks o
+
+-- one rank's first id moved on, the others stay
+pub record HeadMoved (rank : ℕ) (ks old new : List (Option ℕ)) : Type 0 where
+  pub here : IsFirstBehind rank ks (head_at old rank) (head_at new rank)
+  pub others : (r : ℕ) → r ≢ rank → head_at new r ≡ head_at old r
+  pub ranks : length new ≡ length old

@@ -1,26 +1,35 @@
-ghost use Rattle.std.specs.Prelude.{ℕ, ◌≡◌, ◌≤◌, ◌<◌, ◌+◌, ◌^◌, ◌++◌, ◌∷◌, [], IfOk, OnOk, OnSome, None, Some, map, length, reverse, IsTrue, All, option_map};
+ghost use Rattle.std.specs.Prelude.{ℕ, ◌≡◌, ◌≤◌, ◌<◌, ◌+◌, ◌^◌, ◌++◌, ◌∷◌, [], IfOk, OnOk, Some, None, map, length, IsTrue, All};
 ghost use Rattle.std.specs.List.{slice_get};
 ghost use Rattle.tp_spec.specs.Lists.{is_empty};
-ghost use Rattle.word_frontier.specs.Nodes.{RankedNode, GivesLeast, IsLeastOpen, AreApart, open_nodes, taken_by, without, child_of, children_from, is_taken, word_at, StandsAt};
+ghost use Rattle.word_frontier.specs.Nodes.{RankedNode, GivesLeast, IsLeast, IsCopy, AreApart, open_nodes, has_id, taken_by, without, child_of, children_from, live_at, is_taken, word_at, StandsAt};
 ghost use Rattle.std.specs.Prelude.{List as Items};
 ghost use Rattle.tp_spec.specs.declared.plan.Mark.{Mark as AMark};
-ghost use Rattle.word_frontier.specs.Slots.{word_of, words_of, step_of, GoBack, IsFirstFull};
+ghost use Rattle.word_frontier.specs.Slots.{word_of, words_of, step_of, GoBack, ranks_of, links_of, keys, AreChained, IsFirst, IsOfRank, HeadMoved, head_at};
 
+use crate::child::Child;
+use crate::heads::{Heads, no_ids};
 use crate::node::Node;
-use crate::slot::{Kind, Queue, Slot, State};
+use crate::slot::{Among, Kind, Slot, State};
 use std::alloc::Global;
 use std::marker::Model;
-use tp_spec::{List, Mark, NoMemory};
+use tp_spec::{Item, List, Mark, NoMemory};
+
+/// A node that stands: its id, and its deadline.
+#[derive(Clone, Copy, Debug, PartialEq, Eq)]
+pub struct Standing {
+    pub id: u32,
+    pub deadline: u64,
+}
 
 /// The frontier of the search: its nodes, open or taken, by their ids. Nodes that left stay as the
-/// parents of others. The open ids of each rank stand in a queue, in which a new id comes last, so
-/// that no call looks at all nodes.
+/// parents of others. All ids ever given of a rank are linked in order, and kept of each rank are
+/// the first open id, the first that stands, and the last, so that no call looks at all nodes.
 #[derive(Drop)]
 pub struct Frontier {
     slots: Vec<Slot>,
-    queues: Vec<Queue>,
-    least: usize,
-    standing: u32,
+    lasts: Vec<Option<u32>>,
+    opens: Heads,
+    stands: Heads,
 }
 
 impl Model for Frontier {
@@ -33,35 +42,42 @@ impl Model for Frontier {
     ghost view = { λ f. record {
       nodes = nodes_of f.slots.items;
       made = vec_len f.slots;
-      ranks = vec_len f.queues;
+      ranks = vec_len f.lasts;
       room = vec_capacity f.slots - vec_len f.slots;
     } };
 
-    ghost invariant = { λ f. IsKept f.slots.items f.queues.items f.least f.standing };
+    ghost invariant = { λ f. IsKept f.slots.items f.lasts.items f.opens f.stands };
 }
 
 impl Frontier {
-    /// The root alone, which is open: the empty word, under its rank. All ranks of the search are
-    /// below `ranks`.
-    pub fn root(alloc: Global, ranks: usize, rank: u32) -> Result<Frontier, NoMemory>
+    /// The root alone, which is open: the empty word, under its rank and deadline. All ranks of the
+    /// search are below `ranks`.
+    pub fn root(alloc: Global, ranks: usize, rank: u32, deadline: u64) -> Result<Frontier, NoMemory>
         requires { rank < ranks }
-        ensures nodes { IfOk result (λ f. f.nodes
-            ≡ record { id = 0; word = []; rank = rank; taker = None } ∷ []) }
+        ensures nodes { IfOk result (λ f. f.nodes ≡ record {
+          id = 0;
+          word = [];
+          rank = rank;
+          deadline = deadline;
+          taker = None;
+        } ∷ []) }
         ensures made { IfOk result (λ f. f.made ≡ 1) }
         ensures ranks { IfOk result (λ f. f.ranks ≡ ranks) }
     {
-        let empty = Queue {
-            first: None,
-            last: None,
-        };
-        let mut queues = vec![in alloc; empty; ranks]?;
-        queues[rank as usize].push(0);
+        let mut opens = Heads::new(alloc, ranks)?;
+        opens.enter(rank as usize, 0);
+        let mut stands = Heads::new(alloc, ranks)?;
+        stands.enter(rank as usize, 0);
+        let mut lasts = no_ids(alloc, ranks)?;
+        lasts[rank as usize] = Some(0);
         let mut slots = Vec::new(alloc);
         match slots.push(Slot {
+            deadline,
             parent: 0,
             number: 0,
             rank,
             link: 0,
+            taker: 0,
             kind: Kind::TimedAt,
             fresh: true,
             state: State::Open,
@@ -71,9 +87,9 @@ impl Frontier {
         }
         Ok(Frontier {
             slots,
-            queues,
-            least: 0,
-            standing: 1,
+            lasts,
+            opens,
+            stands,
         })
     }
 
@@ -88,7 +104,10 @@ impl Frontier {
     pub fn is_empty(&self) -> bool
         ensures { result ≡ is_empty self.now.nodes }
     {
-        self.standing == 0
+        match self.stands.least() {
+            Some(_) => false,
+            None => true,
+        }
     }
 
     /// Nodes lie in the order of their ids, each of which was given once.
@@ -99,35 +118,6 @@ impl Frontier {
         let _slots = &self.slots;
     }
 
-    /// The id of the open node of the least rank and id, and a copy of it.
-    pub fn least_open(&self, alloc: Global) -> Result<Option<(u32, Node)>, NoMemory>
-        ensures { IfOk result (GivesLeast self.now.nodes) }
-    {
-        let Some((_, id)) = first_full(&self.queues, self.least) else {
-            return Ok(None);
-        };
-        let word = word(alloc, &self.slots, id)?;
-        let rank = self.slots[id as usize].rank;
-        Ok(Some((id, Node::new(List::of(word), rank))))
-    }
-
-    /// Gives the least open node to an actor, where one is open.
-    pub fn take_least(&mut self, actor: u32)
-        ensures none { open_nodes self.old.nodes ≡ [] → self.new ≡ self.old }
-        ensures nodes { (n : RankedNode) → IsLeastOpen self.old.nodes n
-            → self.new.nodes ≡ map (taken_by actor n.id) self.old.nodes }
-        ensures made { self.new.made ≡ self.old.made }
-        ensures ranks { self.new.ranks ≡ self.old.ranks }
-        ensures room { self.old.room ≤ self.new.room }
-    {
-        let Some((rank, id)) = first_full(&self.queues, self.least) else {
-            return;
-        };
-        self.least = rank;
-        self.queues[rank].pop(self.slots[id as usize].link);
-        self.slots[id as usize].note_taker(actor);
-    }
-
     /// Whether the node of an id stands, and this actor took it.
     pub fn is_taken(&self, id: u32, actor: u32) -> bool
         ensures { result ≡ is_taken actor id self.now.nodes }
@@ -135,6 +125,82 @@ impl Frontier {
         match self.slots.get(id as usize) {
             Some(slot) => slot.is_taken_by(actor),
             None => false,
+        }
+    }
+
+    /// The node of the least rank and id, open or taken, if any stands.
+    pub fn best(&self) -> Option<Standing>
+        ensures { GivesLeast self.now.nodes result }
+    {
+        let Some((_, id)) = self.stands.least() else {
+            return None;
+        };
+        let deadline = self.slots[id as usize].deadline;
+        Some(Standing { id, deadline })
+    }
+
+    /// The open node of the least rank and id, if any is open.
+    pub fn least_open(&self) -> Option<Standing>
+        ensures { GivesLeast (open_nodes self.now.nodes) result }
+    {
+        let Some((_, id)) = self.opens.least() else {
+            return None;
+        };
+        let deadline = self.slots[id as usize].deadline;
+        Some(Standing { id, deadline })
+    }
+
+    /// A copy of the node of an id, which stands.
+    pub fn copy_of(&self, alloc: Global, id: u32) -> Result<Node, NoMemory>
+        requires { IsTrue (has_id id self.now.nodes) }
+        ensures { IfOk result (IsCopy self.now.nodes id) }
+    {
+        let word = word(alloc, &self.slots, id)?;
+        let slot = self.slots[id as usize];
+        Ok(Node::new(List::of(word), slot.rank, slot.deadline))
+    }
+
+    /// Gives the least open node to an actor, where one is open.
+    pub fn take_least(&mut self, actor: u32)
+        ensures none { open_nodes self.old.nodes ≡ [] → self.new ≡ self.old }
+        ensures nodes { (n : RankedNode) → IsLeast (open_nodes self.old.nodes) n
+            → self.new.nodes ≡ map (taken_by actor n.id) self.old.nodes }
+        ensures made { self.new.made ≡ self.old.made }
+        ensures ranks { self.new.ranks ≡ self.old.ranks }
+        ensures room { self.old.room ≤ self.new.room }
+    {
+        let Some((rank, id)) = self.opens.least() else {
+            return;
+        };
+        self.slots[id as usize].note_taker(actor);
+        move_head(&mut self.opens, &self.slots, &self.lasts, rank, Among::Open);
+    }
+
+    /// The best node leaves, where there is one.
+    pub fn drop_best(&mut self)
+        ensures none { self.old.nodes ≡ [] → self.new ≡ self.old }
+        ensures nodes { (n : RankedNode) → IsLeast self.old.nodes n
+            → self.new.nodes ≡ without n.id self.old.nodes }
+        ensures made { self.new.made ≡ self.old.made }
+        ensures ranks { self.new.ranks ≡ self.old.ranks }
+        ensures room { self.old.room ≤ self.new.room }
+    {
+        if let Some(node) = self.best() {
+            self.leave(node.id);
+        }
+    }
+
+    /// The least open node leaves, where one is open.
+    pub fn drop_least_open(&mut self)
+        ensures none { open_nodes self.old.nodes ≡ [] → self.new ≡ self.old }
+        ensures nodes { (n : RankedNode) → IsLeast (open_nodes self.old.nodes) n
+            → self.new.nodes ≡ without n.id self.old.nodes }
+        ensures made { self.new.made ≡ self.old.made }
+        ensures ranks { self.new.ranks ≡ self.old.ranks }
+        ensures room { self.old.room ≤ self.new.room }
+    {
+        if let Some(node) = self.least_open() {
+            self.leave(node.id);
         }
     }
 
@@ -150,103 +216,122 @@ impl Frontier {
         Ok(())
     }
 
-    /// Puts open nodes in the place of the one of an id, which an actor took: one for each mark
-    /// behind its word, with the next ids in order and these ranks, which are below the number
-    /// that the root was made with. There is room for them.
-    pub fn expand(&mut self, id: u32, actor: u32, marks: &[Mark], ranks: &[u32])
+    /// Puts open nodes in the place of the one of an id, which an actor took: one for each child
+    /// that is live at a clock, in order, with the next ids. Their ranks are below the number that
+    /// the root was made with, and there is room for them.
+    pub fn expand(&mut self, id: u32, actor: u32, children: &[Child], now: u64)
         requires taken { IsTrue (is_taken actor id self.old.nodes) }
-        requires ranks { length ranks.now ≡ length marks.now }
-        requires below { All (λ r. r < self.old.ranks) ranks.now }
-        requires room { length marks.now ≤ self.old.room }
-        requires ids { self.old.made + length marks.now < 2 ^ 32 }
+        requires below { All (λ c. c.rank < self.old.ranks) children.now }
+        requires room { length (live_at now children.now) ≤ self.old.room }
+        requires ids { self.old.made + length (live_at now children.now) < 2 ^ 32 }
         ensures nodes { self.new.nodes ≡ without id self.old.nodes
-            ++ children_from (word_at id self.old.nodes) self.old.made marks.now ranks.now }
-        ensures made { self.new.made ≡ self.old.made + length marks.now }
+            ++ children_from (word_at id self.old.nodes) self.old.made (live_at now children.now) }
+        ensures made { self.new.made ≡ self.old.made + length (live_at now children.now) }
         ensures ranks { self.new.ranks ≡ self.old.ranks }
-        ensures room { self.old.room ≤ self.new.room + length marks.now }
+        ensures room { self.old.room ≤ self.new.room + length (live_at now children.now) }
     {
         // the parent has a slot, since its id was given
         self.keeps_order();
-        for (k, mark) in marks.iter().enumerate() {
-            self.enter(id, *mark, ranks[k]);
+        for child in children {
+            if now <= child.deadline {
+                self.enter(id, *child);
+            }
         }
-        self.leave(id, actor);
+        self.leave(id);
     }
 
     /// A child of the node of an id comes in, open, with the next id.
-    fn enter(&mut self, id: u32, mark: Mark, rank: u32)
+    fn enter(&mut self, id: u32, child: Child)
         requires there { id < self.old.made }
-        requires rank { rank < self.old.ranks }
+        requires rank { child.rank < self.old.ranks }
         requires room { 0 < self.old.room }
         requires ids { self.old.made + 1 < 2 ^ 32 }
         ensures nodes { (w : Items AMark) → StandsAt w id self.old.nodes
-            → self.new.nodes ≡ self.old.nodes ++ child_of self.old.made w mark rank ∷ [] }
+            → self.new.nodes ≡ self.old.nodes ++ child_of self.old.made w child ∷ [] }
         ensures made { self.new.made ≡ self.old.made + 1 }
         ensures ranks { self.new.ranks ≡ self.old.ranks }
         ensures room { self.old.room ≤ self.new.room + 1 }
     {
         let made = self.slots.len() as u32;
-        if let Some(last) = self.queues[rank as usize].last {
+        let rank = child.rank as usize;
+        if let Some(last) = self.lasts[rank] {
             self.slots[last as usize].note_next(made);
         }
-        self.queues[rank as usize].push(made);
-        self.slots.push_reserved(Slot::open(id, mark, rank));
-        self.standing += 1;
-        self.least = self.least.min(rank as usize);
+        self.lasts[rank] = Some(made);
+        self.slots.push_reserved(Slot::open(id, child));
+        self.opens.enter(rank, made);
+        self.stands.enter(rank, made);
     }
 
-    /// The node of an id, which an actor took, leaves.
-    fn leave(&mut self, id: u32, actor: u32)
-        requires { IsTrue (is_taken actor id self.old.nodes) }
+    /// The node of an id leaves.
+    fn leave(&mut self, id: u32)
+        requires { IsTrue (has_id id self.old.nodes) }
         ensures nodes { self.new.nodes ≡ without id self.old.nodes }
         ensures made { self.new.made ≡ self.old.made }
         ensures ranks { self.new.ranks ≡ self.old.ranks }
         ensures room { self.new.room ≡ self.old.room }
     {
+        let rank = self.slots[id as usize].rank as usize;
         self.slots[id as usize].note_gone();
-        self.standing -= 1;
+        move_head(&mut self.opens, &self.slots, &self.lasts, rank, Among::Open);
+        move_head(&mut self.stands, &self.slots, &self.lasts, rank, Among::All);
     }
 }
 
-/// The first rank from `least` on whose queue is not empty, and its first id; none where all
-/// are empty.
-fn first_full(queues: &[Queue], least: usize) -> Option<(usize, u32)>
-    ensures { IsFirstFull queues.now least result }
+/// The first id of a rank moves on to the first whose node is still among those that are meant.
+fn move_head(heads: &mut Heads, slots: &[Slot], lasts: &[Option<u32>], rank: usize, among: Among)
+    requires chained { AreChained (ranks_of slots.now) (links_of slots.now) lasts.now }
+    requires head { IsOfRank (ranks_of slots.now) rank (head_at heads.old rank) }
+    requires there { rank < length heads.old }
+    requires ranks { rank < length lasts.now }
+    ensures { HeadMoved rank (keys among slots.now) heads.old heads.new }
 {
-    for rank in least..queues.len() {
-        if let Some(id) = queues[rank].first {
-            return Some((rank, id));
-        }
+    if let Some(head) = heads.at(rank) {
+        heads.put(rank, first_from(slots, lasts, rank, head, among));
     }
-    None
 }
 
-/// The word of an id.
+/// The first id of a rank, from one of it on, whose node is among those that are meant.
+fn first_from(
+    slots: &[Slot],
+    lasts: &[Option<u32>],
+    rank: usize,
+    from: u32,
+    among: Among,
+) -> Option<u32>
+    requires chained { AreChained (ranks_of slots.now) (links_of slots.now) lasts.now }
+    requires rank { slice_get (ranks_of slots.now) from ≡ Some rank }
+    requires ranks { rank < length lasts.now }
+    ensures { IsFirst rank from (keys among slots.now) result }
+{
+    let last = lasts[rank];
+    let mut id = from;
+    while !slots[id as usize].is_among(among) {
+        if last == Some(id) {
+            return None;
+        }
+        id = slots[id as usize].link;
+    }
+    Some(id)
+}
+
+/// The word of an id, written from its end on.
 fn word(alloc: Global, slots: &[Slot], id: u32) -> Result<Vec<Mark>, NoMemory>
     requires back { GoBack (map step_of slots.now) }
     requires there { id < length slots.now }
     ensures { IfOk result (λ w. w.items ≡ word_of (words_of (map step_of slots.now)) id) }
 {
-    let mut marks = backwards(alloc, slots, id)?;
-    marks.reverse();
-    Ok(marks)
-}
-
-/// The marks of the word of an id, the last one first.
-fn backwards(alloc: Global, slots: &[Slot], id: u32) -> Result<Vec<Mark>, NoMemory>
-    requires back { GoBack (map step_of slots.now) }
-    requires there { id < length slots.now }
-    ensures { IfOk result (λ ms. reverse ms.items
-        ≡ word_of (words_of (map step_of slots.now)) id) }
-{
-    let mut marks = Vec::with_capacity(alloc, depth(slots, id) as usize)?;
+    let blank = Mark {
+        fresh: false,
+        item: Item::End(0),
+    };
+    let mut left = depth(slots, id) as usize;
+    let mut marks = vec![in alloc; blank; left]?;
     let mut at = id;
     while at > 0 {
-        let slot = slots[at as usize];
-        match marks.push(slot.mark()) {
-            Ok(()) => {}
-            Err(_) => return Err(NoMemory),
-        }
+        let slot = &slots[at as usize];
+        left -= 1;
+        marks[left] = slot.mark();
         at = slot.parent;
     }
     Ok(marks)

@@ -1,14 +1,15 @@
-ghost use Rattle.std.specs.Prelude.{◌≡◌, IfOk};
+ghost use Rattle.std.specs.Prelude.{◌≡◌};
 
-use std::alloc::Global;
 use std::marker::Model;
-use tp_spec::{List, Mark, NoMemory};
+use tp_spec::{List, Mark};
 
-/// A word that the search tries, and its rank: how many goal parts do not hold after it.
+/// A word that the search tries, its rank (how many goal parts do not hold after it), and its
+/// deadline.
 #[derive(Drop)]
 pub struct Node {
     word: List<Mark>,
     rank: u32,
+    deadline: u64,
 }
 
 impl Model for Node {
@@ -16,16 +17,21 @@ impl Model for Node {
 
     ghost Value = { NodeView };
 
-    ghost view = { λ n. record { word = n.word; rank = n.rank } };
+    ghost view = { λ n. record { word = n.word; rank = n.rank; deadline = n.deadline } };
 }
 
 impl Node {
     /// The node of a word.
-    pub fn new(word: List<Mark>, rank: u32) -> Node
+    pub fn new(word: List<Mark>, rank: u32, deadline: u64) -> Node
         ensures word { result.word ≡ word }
         ensures rank { result.rank ≡ rank }
+        ensures deadline { result.deadline ≡ deadline }
     {
-        Node { word, rank }
+        Node {
+            word,
+            rank,
+            deadline,
+        }
     }
 
     /// Its word.
@@ -42,16 +48,10 @@ impl Node {
         self.rank
     }
 
-    /// An equal node.
-    pub fn copy(&self, alloc: Global) -> Result<Node, NoMemory>
-        ensures { IfOk result (λ n. n ≡ self.now) }
+    /// The last clock, in ticks, at which its word is live.
+    pub fn deadline(&self) -> u64
+        ensures { result ≡ self.now.deadline }
     {
-        match Vec::from_slice(alloc, self.word.as_slice()) {
-            Ok(word) => Ok(Node {
-                word: List::of(word),
-                rank: self.rank,
-            }),
-            Err(_) => Err(NoMemory),
-        }
+        self.deadline
     }
 }

@@ -1,7 +1,8 @@
 ghost use Rattle.std.specs.Prelude.{◌≡◌, Some};
-ghost use Rattle.word_frontier.specs.Slots.{mark_of, popped, pushed, taken_in};
+ghost use Rattle.word_frontier.specs.Slots.{mark_of, counts, taken_in};
 ghost use Rattle.word_frontier.specs.declared.slot.State.TheVariants.{Open, Taken, Gone};
 
+use crate::child::Child;
 use std::mem::size_of;
 use tp_spec::{Item, Mark};
 
@@ -21,42 +22,55 @@ pub(crate) enum State {
     Gone,
 }
 
-/// The place of an id: its parent's id, the mark behind its parent's word, and its rank. There is
-/// a slot for each id ever given, so it is kept to 20 bytes: the mark lies in it by its parts, and
-/// `link` is the next open id of the rank while the node is open, then the actor that took it.
+/// Which nodes are meant: the open ones, or all that stand.
+#[derive(Clone, Copy)]
+pub(crate) enum Among {
+    Open,
+    All,
+}
+
+/// The place of an id: its parent's id, the mark behind its parent's word, its rank, its deadline,
+/// the next id of its rank, and the actor that took it. There is a slot for each id ever given, so
+/// it is kept small: the mark lies in it by its parts. `link` means nothing in the last slot of a
+/// rank, nor `taker` where the node is not taken.
 #[derive(Clone, Copy, Debug)]
 pub(crate) struct Slot {
+    pub(crate) deadline: u64,
     pub(crate) parent: u32,
     pub(crate) number: u32,
     pub(crate) rank: u32,
     pub(crate) link: u32,
+    pub(crate) taker: u32,
     pub(crate) kind: Kind,
     pub(crate) fresh: bool,
     pub(crate) state: State,
 }
 
-const _: () = prove!(size_of::<Slot>() == 20);
+const _: () = prove!(size_of::<Slot>() == 32);
 
 impl Slot {
-    /// The slot of an open node, which nothing follows in its queue.
-    pub(crate) fn open(parent: u32, mark: Mark, rank: u32) -> Slot
+    /// The slot of an open node, which nothing follows in its rank.
+    pub(crate) fn open(parent: u32, child: Child) -> Slot
         ensures parent { result.parent ≡ parent }
-        ensures mark { mark_of result ≡ mark }
-        ensures rank { result.rank ≡ rank }
+        ensures mark { mark_of result ≡ child.mark }
+        ensures rank { result.rank ≡ child.rank }
+        ensures deadline { result.deadline ≡ child.deadline }
         ensures state { result.state ≡ Open }
     {
-        let (kind, number) = match mark.item {
+        let (kind, number) = match child.mark.item {
             Item::TimedAt(number) => (Kind::TimedAt, number),
             Item::End(number) => (Kind::End, number),
             Item::Start(number) => (Kind::Start, number),
         };
         Slot {
+            deadline: child.deadline,
             parent,
             number,
-            rank,
+            rank: child.rank,
             link: 0,
+            taker: 0,
             kind,
-            fresh: mark.fresh,
+            fresh: child.mark.fresh,
             state: State::Open,
         }
     }
@@ -76,18 +90,31 @@ impl Slot {
         }
     }
 
+    /// Whether its node is one of those that are meant.
+    pub(crate) fn is_among(&self, among: Among) -> bool
+        ensures { result ≡ counts among self.now.state }
+    {
+        match (among, self.state) {
+            (Among::Open, State::Open) => true,
+            (Among::Open, State::Taken) => false,
+            (Among::All, State::Open) => true,
+            (Among::All, State::Taken) => true,
+            (_, State::Gone) => false,
+        }
+    }
+
     /// Whether this actor took its node, which did not leave.
     pub(crate) fn is_taken_by(&self, actor: u32) -> bool
-        ensures { result ≡ taken_in self.now.state self.now.link actor }
+        ensures { result ≡ taken_in self.now.state self.now.taker actor }
     {
         match self.state {
-            State::Taken => self.link == actor,
+            State::Taken => self.taker == actor,
             State::Open => false,
             State::Gone => false,
         }
     }
 
-    /// An open id of its rank comes behind it.
+    /// An id of its rank comes behind it.
     pub(crate) fn note_next(&mut self, id: u32)
         ensures { self.new ≡ record self.old { link = id } }
     {
@@ -96,9 +123,9 @@ impl Slot {
 
     /// An actor takes its node.
     pub(crate) fn note_taker(&mut self, actor: u32)
-        ensures { self.new ≡ record self.old { link = actor; state = Taken } }
+        ensures { self.new ≡ record self.old { taker = actor; state = Taken } }
     {
-        self.link = actor;
+        self.taker = actor;
         self.state = State::Taken;
     }
 
@@ -107,36 +134,5 @@ impl Slot {
         ensures { self.new ≡ record self.old { state = Gone } }
     {
         self.state = State::Gone;
-    }
-}
-
-/// The open ids of one rank: the first and the last. Those between are linked slot by slot.
-#[derive(Clone, Copy, Debug)]
-pub(crate) struct Queue {
-    pub(crate) first: Option<u32>,
-    pub(crate) last: Option<u32>,
-}
-
-impl Queue {
-    /// Its first id, behind which this one comes if it is not the last, leaves.
-    pub(crate) fn pop(&mut self, next: u32)
-        ensures { self.new ≡ popped next self.old }
-    {
-        if self.first == self.last {
-            self.first = None;
-            self.last = None;
-        } else {
-            self.first = Some(next);
-        }
-    }
-
-    /// An id comes in behind the last.
-    pub(crate) fn push(&mut self, id: u32)
-        ensures { self.new ≡ pushed id self.old }
-    {
-        if self.first.is_none() {
-            self.first = Some(id);
-        }
-        self.last = Some(id);
     }
 }

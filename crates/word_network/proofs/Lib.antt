@@ -4,3 +4,4 @@ pub mod Relaxing
 pub mod WordNets
 pub mod Solutions
 pub mod ReadBack
+pub mod LastClocks

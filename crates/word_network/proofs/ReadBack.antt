@@ -8,7 +8,7 @@ use Rattle.tp_spec.specs.declared.plan.Mark.{Mark}
 use Rattle.tp_spec.specs.declared.plan.Plan.{Plan}
 use Rattle.tp_spec.specs.declared.plan.Timed.{Timed}
 use Rattle.tp_spec.specs.Lists.{IsIn}
-use Rattle.tp_spec.specs.Schedules.{Schedule, finish, timed_act, last_tick, IsGreatest, Live}
+use Rattle.tp_spec.specs.Schedules.{Schedule, finish, timed_act, last_tick, IsGreatest}
 use Rattle.tp_spec.specs.WellFormed.{Ground}
 use Rattle.tp_spec.specs.Words.{Act, Sound, groups, acts_of}
 use Rattle.tp_laws.specs.Clocks.{HasActsInGroups}
@@ -96,11 +96,10 @@ earliest-is p l now c w s xs r same sound h ea ee =
     let end : r.end ≡ last_tick x (groups w) = ee ∙ (λ i. last_of (slice_index (same i)) (h.made.counted i)) ∙ last_by x (groups w) in
     (x, least-is p l now c w formed x t linked h.room h.is, λ i. record { acts = acts i; end = end i })
 
-pub live-by : (p : Ground) (l : Limits) (now : ℕ) (c : List Timed) (w : List Mark) (s : Solved) → Sound p w → AreLastOf p l now c w s → Live p l now c w
-live-by p l now c w s sound h =
+pub greatest-by : (p : Ground) (l : Limits) (now : ℕ) (c : List Timed) (w : List Mark) (s : Solved) → Sound p w → AreLastOf p l now c w s → IsGreatest p l now c w (schedule_by p w (slice_index s.ticks.items))
+greatest-by p l now c w s sound h =
     let formed = sound-acts p w sound in
     let t : ℕ → ℕ = slice_index s.ticks.items in
     let x : Schedule = schedule_by p w t in
     let linked : AreTicksOf p w x t = record { ticks = λ g b. refl; ends = λ a i. by_ticks p w t a } in
-    let best : IsGreatest p l now c w x = greatest-is p l now c w formed x t linked h.room h.is in
-    record { sound = sound; schedule = x; is = best.is }
+    greatest-is p l now c w formed x t linked h.room h.is

@@ -1,4 +1,5 @@
 pub mod Conditions
+pub mod Deadlines
 pub mod Nets
 pub mod Parts
 pub mod Schedules

@@ -91,7 +91,7 @@ fn push_start(
 }
 
 /// How many acts are of an action.
-fn count_by(acts: &[WordAct], action: u32) -> usize
+pub fn count_by(acts: &[WordAct], action: u32) -> usize
     ensures { result ≡ length (acts_by action (map act_of acts.now)) }
 {
     let mut count = 0;

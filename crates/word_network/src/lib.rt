@@ -3,6 +3,7 @@
 #![tactic(auto)]
 
 mod bounds;
+mod deadlines;
 mod net;
 mod networks;
 mod parts;
@@ -14,6 +15,7 @@ mod ticks;
 mod uncounted;
 mod waiting;
 
+pub use deadlines::deadline;
 pub use networks::{earliest, latest};
 pub use schedule::{Latest, OpenEnd};
-pub use uncounted::{earliest_plan, is_live};
+pub use uncounted::earliest_plan;

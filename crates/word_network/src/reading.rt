@@ -127,7 +127,7 @@ fn push_act(
 }
 
 /// The tick of a variable, and 0 past them all.
-fn tick_at(ticks: &[u64], variable: u32) -> u64
+pub fn tick_at(ticks: &[u64], variable: u32) -> u64
     ensures { result ≡ slice_index ticks.now variable }
 {
     match ticks.get(variable as usize) {

@@ -1,4 +1,4 @@
-ghost use Rattle.std.specs.Prelude.{◌≡◌, ◌↔◌, ◌+◌, ◌<◌, ◌≤◌, ◌^◌, [], length, IsTrue, IfOk, IfSome, IfNone};
+ghost use Rattle.std.specs.Prelude.{◌≡◌, ◌+◌, ◌<◌, ◌≤◌, ◌^◌, [], length, IsTrue, IfOk, IfSome, IfNone};
 ghost use Rattle.tp_laws.specs.Plans.{none_run};
 ghost use Rattle.tp_spec.specs.Schedules.{Live, awaited};
 ghost use Rattle.tp_spec.specs.Words.{Sound, progress, acts_of};
@@ -6,7 +6,6 @@ ghost use Rattle.word_network.specs.Conditions.{AreLimits, AreCommits};
 ghost use Rattle.word_network.specs.Schedules.{IsEarliest};
 
 use crate::networks::earliest;
-use crate::solving::last_ticks;
 use std::alloc::Global;
 use std::marker::Brand;
 use std::sync::ledger::{Blank, Ledger};
@@ -63,49 +62,4 @@ fn earliest_of_blank<L: Ledger>(
 {
     let mut steps: Steps<L> = Steps::new(blank);
     earliest(alloc, problem, limits, word, commits, now, &mut steps)
-}
-
-/// Whether a sound word is live at a clock (in ticks) and under commitments. Its only error is want
-/// of memory.
-pub fn is_live(
-    alloc: Global,
-    problem: &Problem,
-    limits: &Limits,
-    word: &[Mark],
-    commits: &[Timed],
-    now: u64,
-) -> Result<bool, NoMemory>
-    requires limits { AreLimits limits.now }
-    requires commits { AreCommits problem.now commits.now }
-    requires now { now ≤ 2 ^ 40 + 1 }
-    requires sound { Sound problem.now word.now }
-    requires few { length word.now < 2 ^ 31 }
-    ensures { IfOk result (λ r. IsTrue r ↔ Live problem.now limits.now now commits.now word.now) }
-{
-    is_live_of_blank::<Brand>(alloc, problem, limits, word, commits, now, Blank::new(1))
-}
-
-fn is_live_of_blank<L: Ledger>(
-    alloc: Global,
-    problem: &Problem,
-    limits: &Limits,
-    word: &[Mark],
-    commits: &[Timed],
-    now: u64,
-    blank: Blank,
-) -> Result<bool, NoMemory>
-    requires name { blank.name ≡ L.name }
-    requires parts { blank.parts ≡ L.parts }
-    requires shared { 0 < L.parts }
-    requires limits { AreLimits limits.now }
-    requires commits { AreCommits problem.now commits.now }
-    requires sound { Sound problem.now word.now }
-    requires few { length word.now < 2 ^ 31 }
-    ensures { IfOk result (λ r. IsTrue r ↔ Live problem.now limits.now now commits.now word.now) }
-{
-    let mut steps: Steps<L> = Steps::new(blank);
-    match last_ticks(alloc, problem, limits, word, commits, now, &mut steps)? {
-        Some(_) => Ok(true),
-        None => Ok(false),
-    }
 }

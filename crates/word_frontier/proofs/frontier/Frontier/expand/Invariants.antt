@@ -1,11 +1,11 @@
-use Rattle.std.proofs.Common.{◌≡◌, ◌≤◌, ◌+◌, ◌++◌, take}
-use Rattle.word_frontier.specs.Nodes.{children_from, word_at}
+use Rattle.std.proofs.Common.{◌≡◌, ◌≤◌, ◌+◌, ◌++◌, length, take}
+use Rattle.word_frontier.specs.Nodes.{children_from, live_at, word_at}
 use Rattle.word_frontier.proofs.frontier.Frontier.expand.Given as goal
 
-abbrev pub invariant-loop-k : goal.invariant-loop-k
-invariant-loop-k l = record {
-  nodes : l.self.nodes ≡ l.fn.self.nodes ++ children_from (word_at l.id l.fn.self.nodes) l.fn.self.made (take l.k l.marks) (take l.k l.ranks);
-  made : l.self.made ≡ l.fn.self.made + l.k;
+abbrev pub invariant-loop-child : goal.invariant-loop-child
+invariant-loop-child l = record {
+  nodes : l.self.nodes ≡ l.fn.self.nodes ++ children_from (word_at l.id l.fn.self.nodes) l.fn.self.made (live_at l.now (take l.child-index l.children));
+  made : l.self.made ≡ l.fn.self.made + length (live_at l.now (take l.child-index l.children));
   ranks : l.self.ranks ≡ l.fn.self.ranks;
-  room : l.fn.self.room ≤ l.self.room + l.k;
+  room : l.fn.self.room ≤ l.self.room + length (live_at l.now (take l.child-index l.children));
 }

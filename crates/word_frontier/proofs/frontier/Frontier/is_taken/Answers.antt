@@ -1,7 +1,8 @@
 use Rattle.std.proofs.Common.{◌∙◌, sym, ap, subst, ◌≡◌, length, ◌≤◌, Some}
 use Rattle.std.specs.List.{slice_get}
 use Rattle.word_frontier.specs.Nodes.{FrontierView, is_taken}
-use Rattle.word_frontier.proofs.Keeping.{is_taken-none, is_taken-some, lies-of}
+use Rattle.word_frontier.proofs.Keeping.{is_taken-none, is_taken-some}
+use Rattle.word_frontier.proofs.Places.{lies-of}
 use Rattle.word_frontier.proofs.frontier.Frontier.is_taken.Goals as goal
 
 pub returns-in-None : goal.returns-in-None
