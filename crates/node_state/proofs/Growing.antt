@@ -1,11 +1,12 @@
 -- Marks that come in one by one.
-use Rattle.std.proofs.Common.{◌≡◌, refl, sym, ap, ◌∙◌, subst, ℕ, zero, suc, ◌+◌, ◌-◌, ◌*◌, ◌/◌, ◌<◌, ◌≤◌, length, slice_index, Bool, true, false, not, ◌&&◌, List, [], ◌∷◌, ◌++◌, map, append_assoc, arith, nat_lt}
+use Rattle.std.proofs.Common.{◌≡◌, refl, sym, ap, ◌∙◌, subst, ℕ, zero, suc, ◌+◌, ◌-◌, ◌*◌, ◌/◌, ◌%◌, ◌<◌, ◌≤◌, length, slice_index, Bool, true, false, not, ◌&&◌, List, [], ◌∷◌, ◌++◌, map, append_assoc, arith, eqb, nat_lt}
 use Rattle.std.specs.Prelude.{cond}
+use Rattle.std.specs.Int.{bit_at}
 use Rattle.std.specs.List.{filter, list_all, range_with_len}
 use Rattle.std.proofs.lemmas.Bool.{false≢true, ne_eqb}
 use Rattle.std.proofs.lemmas.List.{map-append, append-nil}
 use Rattle.world_state.specs.declared.rows.BitRow.{BitRow}
-use Rattle.world_state.specs.Rows.{is_in_row}
+use Rattle.world_state.specs.Rows.{has_bit, is_in_row}
 use Rattle.world_state.proofs.RowBits.{none_at}
 use Rattle.node_state.specs.Judges.{item_of, IsCover}
 use Rattle.node_state.proofs.Insides.{join-below}
@@ -172,13 +173,30 @@ pub not-joining : (joins covered : Bool) → (joins ≡ true → covered ≡ tru
 not-joining true covered h e = absurd (false≢true (sym e ∙ h refl))
 not-joining false covered h e = refl
 
--- a block of which the row has none
-pub block-none : (p : Problem) (c : Progress) (fresh : Bool) (found : Found) (starts : Bool) (row : BitRow) (k : ℕ) → IsCover p c starts row → slice_index row.words.items k ≡ 0 → Grew p c fresh found found (map (item_of starts) (range_with_len (64 * k) 64))
-block-none p c fresh found starts row k covers e =
-    grew-nothing p c fresh found (map (item_of starts) (range_with_len (64 * k) 64))
-    (filter-range-none (may_join p c) (item_of starts) (64 * k) 64 (λ b above below.
-    let block : b / 64 ≡ k = omega (arith, above, below) in
-    not-joining (may_join p c (item_of starts b)) (is_in_row row b) (covers b) (none_at row.words.items b (ap (slice_index row.words.items) block ∙ e))))
+number-none : (words : List ℕ) (b k i : ℕ) → b / 64 ≡ k → b % 64 ≡ i → bit_at (slice_index words k) i ≡ 0 → has_bit words b ≡ false
+unfolding has_bit
+number-none words b k i e m h = ap (λ x. eqb x 1) ((λ j. bit_at (slice_index words (e j)) (m j)) ∙ h)
+
+-- a block's numbers up to the next one that the row has
+pub grew-on : (p : Problem) (c : Progress) (fresh : Bool) (old new : Found) (starts : Bool) (row : BitRow) (k from to w : ℕ) → IsCover p c starts row → w ≡ slice_index row.words.items k → from ≤ to → to ≤ 64
+    → ((i : ℕ) → from ≤ i → i < to → bit_at w i ≡ 0) → Grew p c fresh old new (map (item_of starts) (range_with_len (64 * k) from)) → Grew p c fresh old new (map (item_of starts) (range_with_len (64 * k) to))
+grew-on p c fresh old new starts row k from to w covers word after small none h =
+    let rest : ℕ = to - from in
+    let count : to ≡ from + rest = omega (arith, after) in
+    let front = map (item_of starts) (range_with_len (64 * k) from) in
+    let back = map (item_of starts) (range_with_len (64 * k + from) rest) in
+    subst (λ xs. Grew p c fresh old new xs)
+    (sym (ap (λ (n : ℕ). map (item_of starts) (range_with_len (64 * k) n)) count ∙ ap (map (item_of starts)) (range-append (64 * k) from rest) ∙ map-append (item_of starts) (range_with_len (64 * k) from) (range_with_len (64 * k + from) rest)))
+    (grew-both p c fresh old new new front back h
+    (grew-nothing p c fresh new back
+    (filter-range-none (may_join p c) (item_of starts) (64 * k + from) rest (λ b above below.
+    let last : b < 64 * k + to = omega (arith, below, count) in
+    let block : b / 64 ≡ k = omega (arith, above, last, small) in
+    let place : b % 64 ≡ b - 64 * k = omega (arith, above, last, small) in
+    let first : from ≤ b - 64 * k = omega (arith, above) in
+    let behind : b - 64 * k < to = omega (arith, above, last) in
+    not-joining (may_join p c (item_of starts b)) (is_in_row row b) (covers b)
+    (number-none row.words.items b k (b - 64 * k) block place (ap (λ x. bit_at x (b - 64 * k)) (sym word) ∙ none (b - 64 * k) first behind))))))
 
 -- the next number of a block
 pub grew-next : (p : Problem) (c : Progress) (fresh : Bool) (old mid new : Found) (kind : ℕ → Item) (a n j : ℕ) → a + n ≡ j → Grew p c fresh old mid (map kind (range_with_len a n)) → Grew p c fresh mid new (kind j ∷ []) → Grew p c fresh old new (map kind (range_with_len a (n + 1)))
@@ -198,6 +216,21 @@ grew-block p c fresh old mid new kind k h g =
     subst (λ (n : ℕ). Grew p c fresh old new (map kind (range_with_len 0 n))) count
     (subst (λ xs. Grew p c fresh old new xs) (sym (map-range-append kind (64 * k) 64))
     (grew-both p c fresh old mid new (map kind (range_with_len 0 (64 * k))) (map kind (range_with_len (64 * k) 64)) h g))
+
+-- the blocks up to the next one of which the row has some
+pub grew-over : (p : Problem) (c : Progress) (fresh : Bool) (old new : Found) (starts : Bool) (row : BitRow) (from to : ℕ) → IsCover p c starts row → from ≤ to → ((k : ℕ) → from ≤ k → k < to → slice_index row.words.items k ≡ 0)
+    → Grew p c fresh old new (map (item_of starts) (range_with_len 0 (64 * from))) → Grew p c fresh old new (map (item_of starts) (range_with_len 0 (64 * to)))
+grew-over p c fresh old new starts row from to covers after none h =
+    let count : 64 * to ≡ 64 * from + 64 * (to - from) = omega (arith, after) in
+    let front = map (item_of starts) (range_with_len 0 (64 * from)) in
+    let back = map (item_of starts) (range_with_len (64 * from) (64 * (to - from))) in
+    subst (λ xs. Grew p c fresh old new xs) (sym (ap (λ (n : ℕ). map (item_of starts) (range_with_len 0 n)) count ∙ map-range-append (item_of starts) (64 * from) (64 * (to - from))))
+    (grew-both p c fresh old new new front back h
+    (grew-nothing p c fresh new back
+    (filter-range-none (may_join p c) (item_of starts) (64 * from) (64 * (to - from)) (λ b above below.
+    let first : from ≤ b / 64 = omega (arith, above) in
+    let behind : b / 64 < to = omega (arith, below, after) in
+    not-joining (may_join p c (item_of starts b)) (is_in_row row b) (covers b) (none_at row.words.items b (none (b / 64) first behind))))))
 
 grew-front : (p : Problem) (c : Progress) (fresh : Bool) (old new : Found) (xs ys : List Item) → filter (may_join p c) ys ≡ [] → Grew p c fresh old new (xs ++ ys) → Grew p c fresh old new xs
 grew-front p c fresh old new xs ys none h =

@@ -1,4 +1,5 @@
 pub mod Ranges
+pub mod Joining
 pub mod Insides
 pub mod Closing
 pub mod Shallow
@@ -7,3 +8,4 @@ pub mod Granting
 pub mod Leveling
 pub mod Bits
 pub mod Ranking
+pub mod Footing

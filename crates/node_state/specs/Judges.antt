@@ -13,15 +13,18 @@ use Rattle.node_state.specs.declared.wants.Wants.{Wants}
 use Rattle.node_state.specs.Candidates.{AreWants}
 use Rattle.node_state.specs.Readings.{IsStartOf}
 use Rattle.node_state.specs.Ranks.{IsFree}
+use Rattle.node_state.specs.declared.footprints.Footprints.{Footprints}
+use Rattle.node_state.specs.Footprints.{AreFootprints}
 
 -- the tables of a problem, the reading of its empty word, and facts of which its goal does not
 -- speak
 pub record IsJudgeOf (p : Problem) (items : Items) (wants : Wants) (start : Reading)
-    (free : BitRow) : Type 0 where
+    (free : BitRow) (footprints : Footprints) : Type 0 where
   pub tables : AreTables p items
   pub wanting : AreWants p wants
   pub begun : IsStartOf p start
   pub goal_free : IsFree p free
+  pub footing : AreFootprints p free footprints
 
 -- the start or the end of an action
 abbrev pub item_of : Bool → ℕ → Item

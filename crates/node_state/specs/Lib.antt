@@ -5,3 +5,4 @@ pub mod Candidates
 pub mod Judges
 pub mod Levels
 pub mod Ranks
+pub mod Footprints

@@ -29,17 +29,24 @@ adds_it p f i = list_any (adds f) (effects p i)
 abbrev pub deletes_it : Problem → ℕ → Item → Bool
 deletes_it p f i = list_any (deletes f) (effects p i)
 
--- whether a fact is true after a group with one item more
-abbrev pub fact_with : Problem → State → List Item → Item → ℕ → Bool
-fact_with p s group i f =
-    (s.fact f && not (list_any (deletes_it p f) group || deletes_it p f i))
-    || (list_any (adds_it p f) group || adds_it p f i)
+-- whether a fact is true after a group and some effects more
+abbrev pub fact_by : Problem → State → List Item → List Effect → ℕ → Bool
+fact_by p s group es f =
+    (s.fact f && not (list_any (deletes_it p f) group || list_any (deletes f) es))
+    || (list_any (adds_it p f) group || list_any (adds f) es)
 
 -- whether a condition holds after them, where none of them changes a fluent
+abbrev pub holds_by : Problem → State → List Item → List Effect → Cond → Bool
+holds_by p s group es (Lit f true) = fact_by p s group es f
+holds_by p s group es (Lit f false) = not (fact_by p s group es f)
+holds_by p s group es (Compare op left right) = holds s (Compare op left right)
+
+-- the same after a group with one item more
+abbrev pub fact_with : Problem → State → List Item → Item → ℕ → Bool
+fact_with p s group i f = fact_by p s group (effects p i) f
+
 abbrev pub holds_with : Problem → State → List Item → Item → Cond → Bool
-holds_with p s group i (Lit f true) = fact_with p s group i f
-holds_with p s group i (Lit f false) = not (fact_with p s group i f)
-holds_with p s group i (Compare op left right) = holds s (Compare op left right)
+holds_with p s group i g = holds_by p s group (effects p i) g
 
 -- whether a condition asks for a fact or for its absence
 abbrev pub speaks_of : ℕ → Cond → Bool

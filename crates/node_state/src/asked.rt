@@ -81,9 +81,20 @@ fn count_unmet(state: &State, conds: &[Cond]) -> u32
 {
     let mut count = 0;
     for cond in conds {
-        if !holds(state, cond) {
+        if !is_met(state, cond) {
             count += 1;
         }
     }
     count
+}
+
+/// Whether a condition holds. Most goal parts are literals, which are judged here without a call.
+fn is_met(state: &State, cond: &Cond) -> bool
+    requires { IsTrue (is_shallow cond.now) }
+    ensures { result ≡ holds_in (meaning state.now) cond.now }
+{
+    match cond {
+        Cond::Lit { fact, positive } => state.has(*fact) == *positive,
+        Cond::Compare { .. } => holds(state, cond),
+    }
 }

@@ -1,11 +1,13 @@
 ghost use Rattle.std.specs.Prelude.{◌≡◌, ℕ, ◌<◌, nat_lt, ◌*◌, true, false, [], ◌∷◌, ◌++◌, not, ◌&&◌, length, map, IfOk, IfSome, OnOk, IsTrue, MatchOption};
 ghost use Rattle.std.specs.List.{AllByRecursion, list_all, list_any, range_with_len};
 ghost use Rattle.tp_spec.specs.Lists.{is_empty};
-ghost use Rattle.tp_spec.specs.Items.{all_items, item_before};
+ghost use Rattle.tp_spec.specs.Items.{all_items, item_before, own};
+ghost use Rattle.tp_spec.specs.States.{holds as holds_in};
 ghost use Rattle.tp_spec.specs.Interference.{interfere as interferes};
 ghost use Rattle.tp_spec.specs.Words.{Progress, Sound, closes, progress, in_turn as comes_in_turn, is_end_of, may_join as joins};
 ghost use Rattle.tp_laws.specs.Plans.{begins_timed as has_first};
 ghost use Rattle.world_state.specs.Rows.{is_in_row};
+ghost use Rattle.world_state.specs.View.{meaning};
 ghost use Rattle.node_state.specs.Growths.{IsGrowthOf};
 ghost use Rattle.tp_spec.specs.declared.plan.Item.TheVariants.{TimedAt, End, Start};
 ghost use Rattle.node_state.specs.Readings.{progress_of, IsClosed, IsReadingOf};
@@ -16,16 +18,21 @@ ghost use Rattle.node_state.specs.Levels.{is_fresh_at, AreLevels, IsLevel};
 ghost use Rattle.node_state.specs.Founds.{ends_in_goal, unmet_with, Grew, TookMarks};
 
 use crate::asked::{goal_holds, unmet_in};
+use crate::footprints::Footprints;
 use crate::growth::Growth;
 use crate::levels::{Level, descend};
-use crate::ranks::{free_facts, stay_in, unmet_by_effects};
+use crate::ones::{next_one, next_word};
+use crate::ranks::{free_facts, unmet_by_effects};
 use crate::reading::Reading;
 use crate::wants::Wants;
 use snap_actions::{Items, interfere, items_of};
 use std::alloc::Global;
 use std::marker::Model;
-use tp_spec::{Item, List, Mark, NoMemory, Problem};
-use world_state::{BitRow, apply, can};
+use tp_spec::{Cond, Item, List, Mark, NoMemory, Problem};
+use world_state::{BitRow, State, apply, can};
+
+/// How many marks have room before their list grows.
+const ROOM: usize = 16;
 
 /// Marks, and how many goal parts do not hold behind each of them.
 #[derive(Drop)]
@@ -43,6 +50,7 @@ pub(crate) struct Judge<'p> {
     wants: Wants,
     start: Reading,
     free: BitRow,
+    footprints: Footprints,
 }
 
 impl<'p> Model for Judge<'p> {
@@ -57,7 +65,7 @@ impl<'p> Model for Judge<'p> {
 
     ghost view = { λ j. j.problem.now };
 
-    ghost invariant = { λ j. IsJudgeOf j.problem.now j.items j.wants j.start j.free };
+    ghost invariant = { λ j. IsJudgeOf j.problem.now j.items j.wants j.start j.free j.footprints };
 }
 
 impl<'p> Judge<'p> {
@@ -69,6 +77,7 @@ impl<'p> Judge<'p> {
         let wants = Wants::of(alloc, problem)?;
         let start = Reading::at_start(alloc, problem)?;
         let free = free_facts(alloc, problem)?;
+        let footprints = Footprints::of(alloc, problem, &free)?;
         Ok(Judge {
             alloc,
             problem,
@@ -76,6 +85,7 @@ impl<'p> Judge<'p> {
             wants,
             start,
             free,
+            footprints,
         })
     }
 
@@ -141,7 +151,7 @@ impl<'p> Judge<'p> {
         ensures closed { IfOk result (λ r. IfSome r.1
             (λ n. IsClosed self.now (progress_of reading.now) n)) }
     {
-        let mut found = Found::none(self.alloc);
+        let mut found = Found::none(self.alloc)?;
         self.offer_joining(reading, &mut found)?;
         let Some(next) = self.closed(reading)? else {
             return Ok((found.into_growth(false), None));
@@ -293,8 +303,11 @@ impl<'p> Judge<'p> {
     {
         let problem = self.problem;
         problem.keeps_the_rules();
-        for block in 0..problem.actions.as_slice().len().div_ceil(64) {
+        let blocks = problem.actions.as_slice().len().div_ceil(64);
+        let mut block = next_word(row, 0, blocks);
+        while block < blocks {
             self.offer_block(reading, fresh, unmet, row, starts, block, found)?;
+            block = next_word(row, block + 1, blocks);
         }
         Ok(())
     }
@@ -317,38 +330,43 @@ impl<'p> Judge<'p> {
         ensures { OnOk result (Grew self.now (progress_of reading.now) fresh found.old found.new
             (map (item_of starts) (range_with_len (64 * block) 64))) }
     {
-        if row.word(block) == 0 {
-            return Ok(());
-        }
-        for bit in 0..64 {
-            let action = (64 * block + bit) as u32;
-            self.offer_member(reading, fresh, unmet, row, item(starts, action), found)?;
+        let word = row.word(block);
+        let mut bit = next_one(word, 0);
+        while bit < 64 {
+            let action = 64 * block as u32 + bit;
+            self.offer_member(reading, fresh, unmet, item(starts, action), found)?;
+            bit = next_one(word, bit + 1);
         }
         Ok(())
     }
 
-    /// The same for one action.
+    /// Takes in the mark of an item of a row, if that may join. Most items that may not fail by the
+    /// second of their conditions, as the first one chose the row: that is judged at once.
     fn offer_member(
         &self,
         reading: &Reading,
         fresh: bool,
         unmet: u32,
-        row: &BitRow,
         item: Item,
         found: &mut Found,
     ) -> Result<(), NoMemory>
         requires reading { IsReadingOf self.now reading.now }
-        requires covers { joins self.now (progress_of reading.now) item ≡ true
-            → is_in_row row.now (number_of item) ≡ true }
         requires unmet { unmet ≡ unmet_before self.now (progress_of reading.now) }
         ensures { OnOk result (Grew self.now (progress_of reading.now) fresh found.old found.new
             (item ∷ [])) }
     {
-        if !row.has(number(item)) {
+        if self.fails_early(reading, item) {
             return Ok(());
         }
         self.offer(reading, fresh, unmet, item, found)?;
         Ok(())
+    }
+
+    /// Whether the second condition of an item is a literal that does not hold.
+    fn fails_early(&self, reading: &Reading, item: Item) -> bool
+        ensures { result ≡ true → joins self.now (progress_of reading.now) item ≡ false }
+    {
+        is_second_broken(self.problem, &reading.before, item)
     }
 
     /// Takes in the mark of an item, if that may join.
@@ -394,7 +412,7 @@ impl<'p> Judge<'p> {
         ensures { result ≡ true → unmet_before self.now (progress_of reading.now)
             ≡ unmet_with self.now (progress_of reading.now) item }
     {
-        stay_in(self.problem, &self.free, &reading.group, item)
+        self.footprints.are_quiet(&reading.group, item)
     }
 
     /// The same by what the items write, where none of them changes a fluent.
@@ -423,35 +441,51 @@ impl<'p> Judge<'p> {
     fn may_join(&self, reading: &Reading, item: Item) -> bool
         ensures { result ≡ joins self.now (progress_of reading.now) item }
     {
-        in_turn(self.problem, reading, item)
-            && can(self.problem, &reading.before, item)
-            && self.fits(&reading.group, item)
+        if !is_next(self.problem, reading, item) {
+            return false;
+        }
+        if !can(self.problem, &reading.before, item) {
+            return false;
+        }
+        self.is_apart(&reading.group, item)
     }
 
-    /// Whether an item is behind all items of a group, and interferes with none.
-    fn fits(&self, group: &[Item], item: Item) -> bool
-        ensures { result ≡ list_all (λ j. item_before j item && not (interferes self.now j item))
-            group.now }
+    /// Whether an item interferes with none of a group.
+    fn is_apart(&self, group: &[Item], item: Item) -> bool
+        ensures { result ≡ list_all (λ j. not (interferes self.now j item)) group.now }
     {
         for other in group {
-            if !is_before(*other, item) || interfere(&self.items, *other, item) {
+            if self.disturb(*other, item) {
                 return false;
             }
         }
         true
     }
+
+    /// Whether two items interfere: where their footprints do not tell, by their rows.
+    fn disturb(&self, a: Item, b: Item) -> bool
+        ensures { result ≡ interferes self.now a b }
+    {
+        if self.footprints.are_apart(a, b) {
+            return false;
+        }
+        interfere(&self.items, a, b)
+    }
 }
 
 impl Found {
-    /// No marks.
-    fn none(alloc: Global) -> Found
-        ensures marks { result.marks.items ≡ [] }
-        ensures ranks { result.ranks.items ≡ [] }
+    /// No marks, with room for some: most words have few that may follow.
+    fn none(alloc: Global) -> Result<Found, NoMemory>
+        ensures marks { IfOk result (λ f. f.marks.items ≡ []) }
+        ensures ranks { IfOk result (λ f. f.ranks.items ≡ []) }
     {
-        Found {
-            marks: Vec::new(alloc),
-            ranks: Vec::new(alloc),
-        }
+        let Ok(marks) = Vec::with_capacity(alloc, ROOM) else {
+            return Err(NoMemory);
+        };
+        let Ok(ranks) = Vec::with_capacity(alloc, ROOM) else {
+            return Err(NoMemory);
+        };
+        Ok(Found { marks, ranks })
     }
 
     /// These marks and ranks, and whether the word is whole.
@@ -503,6 +537,41 @@ fn begins_timed(problem: &Problem) -> bool
     }
 }
 
+/// Whether the second condition of an item is a literal that does not hold.
+fn is_second_broken(problem: &Problem, state: &State, item: Item) -> bool
+    ensures { result ≡ true → own problem.now (meaning state.now) item ≡ false }
+{
+    match problem.conditions(item).get(1) {
+        Some(cond) => is_broken_literal(state, cond),
+        None => false,
+    }
+}
+
+/// Whether a condition is a literal that does not hold.
+fn is_broken_literal(state: &State, cond: &Cond) -> bool
+    ensures { result ≡ true → holds_in (meaning state.now) cond.now ≡ false }
+{
+    match cond {
+        Cond::Lit { fact, positive } => state.has(*fact) != *positive,
+        Cond::Compare { .. } => false,
+    }
+}
+
+/// Whether an item may come next by what came before, and comes behind its group's items.
+fn is_next(problem: &Problem, reading: &Reading, item: Item) -> bool
+    ensures { result ≡ (comes_in_turn problem.now (progress_of reading.now) item
+        && list_all (λ j. item_before j item) reading.now.group.items) }
+{
+    in_turn(problem, reading, item) && is_behind(&reading.group, item)
+}
+
+/// Whether an item comes behind all items of a group in the item order.
+fn is_behind(group: &[Item], item: Item) -> bool
+    ensures { result ≡ list_all (λ j. item_before j item) group.now }
+{
+    group.iter().all(|other| is_before(*other, item))
+}
+
 /// Whether a group has no item.
 fn is_without(group: &[Item]) -> bool
     ensures { result ≡ is_empty group.now }
@@ -541,7 +610,7 @@ fn in_turn(problem: &Problem, reading: &Reading, item: Item) -> bool
 }
 
 /// The start or the end of an action.
-fn item(starts: bool, action: u32) -> Item
+pub(crate) fn item(starts: bool, action: u32) -> Item
     ensures { result ≡ item_of starts action }
 {
     if starts {

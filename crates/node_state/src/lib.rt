@@ -3,9 +3,11 @@
 #![tactic(auto)]
 
 mod asked;
+mod footprints;
 mod growth;
 mod judge;
 mod levels;
+mod ones;
 mod ranks;
 mod reading;
 mod running;

@@ -1,13 +1,13 @@
 ghost use Rattle.std.specs.Prelude.{◌≡◌, ◌≤◌, ◌||◌, ◌&&◌, ◌==◌, not, count_by, length, IfOk, IfSome, IsTrue};
 ghost use Rattle.std.specs.List.{list_all, list_any};
-ghost use Rattle.tp_spec.specs.Items.{adds as adds_fact, deletes as deletes_fact};
+ghost use Rattle.tp_spec.specs.Items.{adds as adds_fact, deletes as deletes_fact, effects as effects_of};
 ghost use Rattle.world_state.specs.Exact.{is_shallow};
 ghost use Rattle.world_state.specs.Happenings.{action_effects};
 ghost use Rattle.world_state.specs.Rows.{Loses};
 ghost use Rattle.world_state.specs.View.{meaning};
 ghost use Rattle.node_state.specs.Founds.{unmet_with};
 ghost use Rattle.node_state.specs.Readings.{progress_of};
-ghost use Rattle.node_state.specs.Ranks.{speaks_of, writes_in, stays_in, IsFree, is_of_fact, writes_facts, adds_it, deletes_it, fact_with as true_with, holds_with as met_with};
+ghost use Rattle.node_state.specs.Ranks.{speaks_of, writes_in, IsFree, is_of_fact, writes_facts, adds_it, deletes_it, fact_by as true_by, holds_by as met_by};
 
 use crate::reading::Reading;
 use std::alloc::Global;
@@ -53,31 +53,8 @@ fn drop_fact(row: &mut BitRow, cond: &Cond)
     }
 }
 
-/// Whether all that a group with an item more writes are facts of a row.
-pub(crate) fn stay_in(problem: &Problem, row: &BitRow, group: &[Item], item: Item) -> bool
-    ensures { result ≡ (list_all (stays_in problem.now row.now) group.now
-        && stays_in problem.now row.now item) }
-{
-    group_stays_in(problem, row, group) && item_stays_in(problem, row, item)
-}
-
-fn group_stays_in(problem: &Problem, row: &BitRow, group: &[Item]) -> bool
-    ensures { result ≡ list_all (stays_in problem.now row.now) group.now }
-{
-    group.iter().all(|item| item_stays_in(problem, row, *item))
-}
-
-fn item_stays_in(problem: &Problem, row: &BitRow, item: Item) -> bool
-    ensures { result ≡ stays_in problem.now row.now item }
-{
-    match item {
-        Item::TimedAt(_) => false,
-        Item::End(_) => all_write_in(row, effects_of_action(problem, item)),
-        Item::Start(_) => all_write_in(row, effects_of_action(problem, item)),
-    }
-}
-
-fn all_write_in(row: &BitRow, effects: &[Effect]) -> bool
+/// Whether all that effects write are facts of a row.
+pub(crate) fn all_write_in(row: &BitRow, effects: &[Effect]) -> bool
     ensures { result ≡ list_all (writes_in row.now) effects.now }
 {
     effects.iter().all(|effect| is_write_in(row, effect))
@@ -94,62 +71,94 @@ fn is_write_in(row: &BitRow, effect: &Effect) -> bool
 }
 
 /// How many goal parts do not hold after a word's last group with an item more, none where one of
-/// its items changes a fluent.
+/// its items changes a fluent or this one is a timed item.
 pub(crate) fn unmet_by_effects(problem: &Problem, reading: &Reading, item: Item) -> Option<u32>
     ensures { IfSome result (λ n. n ≡ unmet_with problem.now (progress_of reading.now) item) }
 {
-    if write_facts(problem, &reading.group, item) {
-        return Some(unmet_after(problem, &reading.before, &reading.group, item));
+    match item {
+        Item::TimedAt(_) => None,
+        Item::End(_) => unmet_by(problem, reading, item, effects_of_action(problem, item)),
+        Item::Start(_) => unmet_by(problem, reading, item, effects_of_action(problem, item)),
+    }
+}
+
+/// The same by an item's effects.
+fn unmet_by(problem: &Problem, reading: &Reading, item: Item, effects: &[Effect]) -> Option<u32>
+    requires { effects.now ≡ effects_of problem.now item }
+    ensures { IfSome result (λ n. n ≡ unmet_with problem.now (progress_of reading.now) item) }
+{
+    if write_facts(problem, &reading.group, effects) {
+        return Some(unmet_after(problem, &reading.before, &reading.group, effects));
     }
     None
 }
 
-/// How many goal parts do not hold after a group with an item more, where none of them changes a
-/// fluent.
-fn unmet_after(problem: &Problem, before: &State, group: &[Item], item: Item) -> u32
+/// How many goal parts do not hold after a group and some effects more, where none of them changes
+/// a fluent.
+fn unmet_after(problem: &Problem, before: &State, group: &[Item], effects: &[Effect]) -> u32
     ensures { result ≡ count_by
-        (λ g. not (met_with problem.now (meaning before.now) group.now item g)) problem.now.goal }
+        (λ g. not (met_by problem.now (meaning before.now) group.now effects.now g))
+        problem.now.goal }
 {
     problem.keeps_the_rules();
-    count_after(problem, before, group, item, problem.goal.as_slice())
+    count_after(problem, before, group, effects, problem.goal.as_slice())
 }
 
-/// How many of some conditions do not hold after a group with an item more.
-fn count_after(problem: &Problem, before: &State, group: &[Item], item: Item, conds: &[Cond]) -> u32
+/// How many of some conditions do not hold after a group and some effects more.
+fn count_after(
+    problem: &Problem,
+    before: &State,
+    group: &[Item],
+    effects: &[Effect],
+    conds: &[Cond],
+) -> u32
     requires shallow { IsTrue (list_all is_shallow conds.now) }
     requires few { length conds.now ≤ 2147483648 }
     ensures { result ≡ count_by
-        (λ g. not (met_with problem.now (meaning before.now) group.now item g)) conds.now }
+        (λ g. not (met_by problem.now (meaning before.now) group.now effects.now g)) conds.now }
 {
     let mut count = 0;
     for cond in conds {
-        if !holds_with(problem, before, group, item, cond) {
+        if !holds_after(problem, before, group, effects, cond) {
             count += 1;
         }
     }
     count
 }
 
-/// Whether a condition holds after a group with an item more, where none of them changes a fluent.
-fn holds_with(problem: &Problem, before: &State, group: &[Item], item: Item, cond: &Cond) -> bool
+/// Whether a condition holds after a group and some effects more, where none of them changes a
+/// fluent.
+fn holds_after(
+    problem: &Problem,
+    before: &State,
+    group: &[Item],
+    effects: &[Effect],
+    cond: &Cond,
+) -> bool
     requires { IsTrue (is_shallow cond.now) }
-    ensures { result ≡ met_with problem.now (meaning before.now) group.now item cond.now }
+    ensures { result ≡ met_by problem.now (meaning before.now) group.now effects.now cond.now }
 {
     match cond {
         Cond::Lit { fact, positive } => {
-            fact_with(problem, before, group, item, *fact) == *positive
+            is_true_after(problem, before, group, effects, *fact) == *positive
         }
         Cond::Compare { .. } => holds(before, cond),
     }
 }
 
-/// Whether a fact is true after a group with an item more: what is added wins.
-fn fact_with(problem: &Problem, before: &State, group: &[Item], item: Item, fact: u32) -> bool
-    ensures { result ≡ true_with problem.now (meaning before.now) group.now item fact }
+/// Whether a fact is true after a group and some effects more: what is added wins.
+fn is_true_after(
+    problem: &Problem,
+    before: &State,
+    group: &[Item],
+    effects: &[Effect],
+    fact: u32,
+) -> bool
+    ensures { result ≡ true_by problem.now (meaning before.now) group.now effects.now fact }
 {
     let kept = before.has(fact)
-        && !(group_deletes(problem, group, fact) || deletes(problem, item, fact));
-    kept || (group_adds(problem, group, fact) || adds(problem, item, fact))
+        && !(group_deletes(problem, group, fact) || any_deletes(effects, fact));
+    kept || (group_adds(problem, group, fact) || any_adds(effects, fact))
 }
 
 fn group_adds(problem: &Problem, group: &[Item], fact: u32) -> bool
@@ -164,12 +173,12 @@ fn group_deletes(problem: &Problem, group: &[Item], fact: u32) -> bool
     group.iter().any(|item| deletes(problem, *item, fact))
 }
 
-/// Whether none of a group with an item more changes a fluent.
-fn write_facts(problem: &Problem, group: &[Item], item: Item) -> bool
+/// Whether none of a group and some effects more changes a fluent.
+fn write_facts(problem: &Problem, group: &[Item], effects: &[Effect]) -> bool
     ensures { result ≡ (list_all (writes_facts problem.now) group.now
-        && writes_facts problem.now item) }
+        && list_all is_of_fact effects.now) }
 {
-    group_writes_facts(problem, group) && changes_none(problem, item)
+    group_writes_facts(problem, group) && are_of_facts(effects)
 }
 
 fn group_writes_facts(problem: &Problem, group: &[Item]) -> bool
@@ -189,7 +198,7 @@ fn changes_none(problem: &Problem, item: Item) -> bool
     }
 }
 
-fn are_of_facts(effects: &[Effect]) -> bool
+pub(crate) fn are_of_facts(effects: &[Effect]) -> bool
     ensures { result ≡ list_all is_of_fact effects.now }
 {
     effects.iter().all(|effect| is_fact_effect(effect))
@@ -272,7 +281,7 @@ fn is_delete(effect: &Effect, fact: u32) -> bool
 }
 
 /// What the end or the start of an action does; nothing of a timed item.
-fn effects_of_action(problem: &Problem, item: Item) -> &[Effect]
+pub(crate) fn effects_of_action(problem: &Problem, item: Item) -> &[Effect]
     ensures { result.now ≡ action_effects problem.now item }
 {
     match item {

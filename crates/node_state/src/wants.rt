@@ -1,10 +1,10 @@
-ghost use Rattle.std.specs.Int.{bit_at};
 ghost use Rattle.std.specs.Prelude.{◌≡◌, ◌<◌, ◌≤◌, ◌+◌, ◌*◌, not, ◌&&◌, ◌||◌, ℕ, Bool, length, if◌then◌else◌, IfOk};
 ghost use Rattle.world_state.specs.Rows.{is_in_row, has_place, width};
 ghost use Rattle.world_state.specs.View.{meaning};
 ghost use Rattle.node_state.specs.Candidates.{first_wanted, granted, mixed, wanted_by, with_fact, AreWants, AreWantsBelow, IsCandidateRow, IsCandidateRowBelow};
 ghost use Rattle.node_state.specs.Candidates.{want_of as first_want};
 
+use crate::ones::next_one;
 use std::alloc::Global;
 use tp_spec::{Cond, Item, NoMemory, Problem};
 use world_state::{BitRow, State};
@@ -171,23 +171,6 @@ impl Wants {
             Some(wanting) => change(row, wanting, holds),
         }
     }
-}
-
-/// The place of a word's first 1 from a place on, 64 where there is none.
-fn next_one(word: u64, from: u32) -> u32
-    requires { from ≤ 64 }
-    ensures after { from ≤ result }
-    ensures inside { result ≤ 64 }
-    ensures none { (i : ℕ) → from ≤ i → i < result → bit_at word i ≡ 0 }
-{
-    if from == 64 {
-        return 64;
-    }
-    let rest = word >> from;
-    if rest == 0 {
-        return 64;
-    }
-    (from + rest.trailing_zeros()).min(64)
 }
 
 /// Takes in another row, or loses it.

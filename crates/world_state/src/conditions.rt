@@ -34,11 +34,22 @@ pub fn all_hold(state: &State, conds: &[Cond]) -> bool
     ensures { result ≡ list_all (holds_in (meaning state.now)) conds.now }
 {
     for cond in conds {
-        if !holds(state, cond) {
+        if !is_met(state, cond) {
             return false;
         }
     }
     true
+}
+
+/// Whether a condition holds. Most conditions are literals, which are judged here without a call.
+fn is_met(state: &State, cond: &Cond) -> bool
+    requires { IsTrue (is_shallow cond.now) }
+    ensures { result ≡ holds_in (meaning state.now) cond.now }
+{
+    match cond {
+        Cond::Lit { fact, positive } => state.has(*fact) == *positive,
+        Cond::Compare { .. } => holds(state, cond),
+    }
 }
 
 /// An item's own conditions: the written ones hold, each right side that it uses is defined, and

@@ -1,8 +1,0 @@
-use Rattle.std.proofs.Common.{◌≡◌, true, not, ◌&&◌, take}
-use Rattle.std.specs.List.{list_all}
-use Rattle.tp_spec.specs.Items.{item_before}
-use Rattle.tp_spec.specs.Interference.{interfere}
-use Rattle.node_state.proofs.judge.Judge.fits.Given as goal
-
-abbrev pub invariant-loop-other : goal.invariant-loop-other
-invariant-loop-other l = list_all (λ j. item_before j l.item && not (interfere l.self j l.item)) (take l.other-index l.group) ≡ true
