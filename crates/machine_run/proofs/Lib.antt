@@ -1,0 +1,11 @@
+pub mod Outcomes
+pub mod Standing
+pub mod Ranks
+pub mod Nodes
+pub mod Frontiers
+pub mod Roots
+pub mod Legal
+pub mod Settling
+pub mod Taking
+pub mod LiveMarks
+pub mod Holding

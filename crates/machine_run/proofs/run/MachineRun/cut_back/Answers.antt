@@ -1,0 +1,9 @@
+use Rattle.std.proofs.Common.{sym, subst}
+use Rattle.machine_run.specs.Deeds.{HasStart}
+use Rattle.machine_run.specs.Views.{RunView}
+use Rattle.machine_run.proofs.Standing.{kept-cut}
+use Rattle.machine_run.proofs.run.MachineRun.cut_back.Goals as goal
+
+pub invariant_of-self : goal.invariant_of-self
+invariant_of-self c =
+    kept-cut c.self.invariant c.args.start _ _ (subst (λ (r : RunView). HasStart r c.args.start) (sym c.self.view_is) c.requires.start) c.truncate.ensures.items c.push_reserved.ensures.items
