@@ -2,30 +2,22 @@
 use Rattle.std.proofs.Common.{◌≡◌, refl, sym, ap, subst, ◌∙◌, ℕ, ◌+◌, Bool, true, false, List, [], ◌∷◌, ◌++◌, length, Option, Some, None, IfSome, append-nil, length-append, arith, if◌then◌else◌, fold}
 use Rattle.std.proofs.lemmas.Bool.{false≢true}
 use Rattle.std.proofs.lemmas.List.Sums.{fold-append}
-use Rattle.std.proofs.lemmas.Grind.{flat_map-append}
 use Rattle.tp_spec.specs.declared.event.Event.{Event}
-use Rattle.tp_spec.specs.declared.event.Event.TheVariants.{Tick, Halt}
+use Rattle.tp_spec.specs.declared.event.Event.TheVariants.{Halt}
 use Rattle.tp_spec.specs.declared.event.Cause.{Cause}
 use Rattle.tp_spec.specs.declared.event.Cause.TheVariants.{Memory}
-use Rattle.tp_spec.specs.Machine.{readings, ticks, reading_of}
+use Rattle.tp_spec.specs.Machine.{readings, ticks}
 use Rattle.tp_world.specs.Counts.{count_after, one_more}
 use Rattle.tp_world.specs.Readings.{reading_at, AreNext}
 use Rattle.tp_world.proofs.ReadingsLemmas.{AreNext-read}
-use Rattle.open_tree.specs.Turns.{IsTurn, IsClocked, IsLatest}
-
-readings-append : (es fs : List Event) → readings (es ++ fs) ≡ readings es ++ readings fs
-readings-append es fs = flat_map-append reading_of es fs
-
-readings-turn : {old new : List Event} {actor r : ℕ} → IsTurn old new actor r → readings new ≡ readings old ++ r ∷ []
-readings-turn {old} {new} {actor} {r} t =
-    ap readings t.grown ∙ readings-append old (Tick actor r ∷ t.rest) ∙ ap (λ rs. readings old ++ r ∷ rs) t.one_reading
+use Rattle.open_tree.specs.Turns.{IsClocked, IsLatest}
+use Rattle.open_tree.proofs.Turns.{readings-append}
 
 -- a turn whose Tick holds the reading
-pub clocked_turn : {b n m : ℕ} {told now now' : Option (List ℕ)} {old new : List Event} {actor r : ℕ}
+pub clocked_turn : {b n m : ℕ} {told now now' : Option (List ℕ)} {old new : List Event} (r : ℕ)
     → IsClocked b n told now old false → m ≡ one_more n → now' ≡ now → IfSome now (λ xs. r ≡ reading_at xs n)
-    → IsTurn old new actor r → IsClocked b m told now' new false
-clocked_turn {b} {n} {m} {told} {now} {now'} {old} {new} {actor} {r} c more same reading t =
-    let longer : readings new ≡ readings old ++ r ∷ [] = readings-turn t in
+    → readings new ≡ readings old ++ r ∷ [] → IsClocked b m told now' new false
+clocked_turn {b} {n} {m} {told} {now} {now'} {old} {new} r c more same reading longer =
     let count : ticks new ≡ ticks old + 1 = ap length longer ∙ length-append (readings old) (r ∷ []) in
     record {
       counted = more ∙ ap one_more c.counted ∙ omega (arith, count);
@@ -67,9 +59,9 @@ clocked_first b told {history} none still = subst (λ h. IsClocked b b told told
 
 -- the last reading
 
-pub latest_turn : {b last : ℕ} {old new : List Event} {actor r : ℕ} {spare : Bool} → spare ≡ false → IsTurn old new actor r → last ≡ r → IsLatest b last new spare
-latest_turn {b} {last} {old} {new} {actor} {r} exact t is = record {
-  latest = λ _. is ∙ sym (ap (fold (λ earlier x. x) b) (readings-turn t) ∙ fold-append (λ earlier x. x) b (readings old) (r ∷ []));
+pub latest_turn : {b last : ℕ} {new : List Event} {spare : Bool} (old : List Event) (r : ℕ) → spare ≡ false → readings new ≡ readings old ++ r ∷ [] → last ≡ r → IsLatest b last new spare
+latest_turn {b} {last} {new} old r exact longer is = record {
+  latest = λ _. is ∙ sym (ap (fold (λ earlier x. x) b) longer ∙ fold-append (λ earlier x. x) b (readings old) (r ∷ []));
   behind = λ spare. absurd (false≢true (sym exact ∙ spare));
 }
 

@@ -1,5 +1,5 @@
 -- A node that an actor took keeps its word and its taker as long as it stands, and its id is never given again.
-use Rattle.std.proofs.Common.{◌≡◌, refl, sym, ap, subst, ◌∙◌, ℕ, ◌<◌, inl, inr, ◌==◌, Bool, true, false, not, is_some, cond, List, [], ◌∷◌, ◌++◌, Some, arith}
+use Rattle.std.proofs.Common.{◌≡◌, refl, sym, ap, subst, ◌∙◌, ℕ, ◌<◌, ◌≤◌, inl, inr, ◌==◌, Bool, true, false, not, is_some, cond, List, [], ◌∷◌, ◌++◌, length, Some, arith}
 use Rattle.std.specs.List.{filter}
 use Rattle.std.proofs.lemmas.Bool.{and_parts, false≢true, ltb-true, eq-eqb, eqb-true}
 use Rattle.tp_spec.specs.declared.event.Event.{Event}
@@ -8,6 +8,7 @@ use Rattle.tp_spec.specs.declared.plan.Limits.{Limits}
 use Rattle.tp_spec.specs.declared.plan.Mark.{Mark}
 use Rattle.tp_spec.specs.declared.problem.Problem.{Problem}
 use Rattle.tp_spec.specs.Lists.{IsIn, each_pair}
+use Rattle.tp_spec.specs.Schedules.{Live}
 use Rattle.tp_spec.specs.Machine.{Machine, Node, first, step, end_of, state_of, AreLegal, Legal, IsRun, TakeIsLegal, is_open, taken_by, without, children, word_of}
 use Rattle.tp_laws.proofs.EarlyCover.{FrontsLive}
 use Rattle.tp_laws.proofs.EarlyLists.{each-in, each-true}
@@ -108,27 +109,45 @@ module _ (p : Problem) (l : Limits) (actor id : ℕ) (w : List Mark) where
   held-run m [] legal h = h
   held-run m (e ∷ es) legal h = held-run (step l m e) es legal.1 (held-step m e legal.0 h)
 
--- what a run says of a job that was taken in it
-pub record JobStands (l : Limits) (history : List Event) (actor : ℕ) (job : JobView) : Type 0 where
-  pub held : IsHeld (state_of l history) actor job.id job.node.word
-  pub clock : job.clock ≡ 0
-  pub commits : job.commits ≡ []
+-- a clock never goes back
+later-run : (l : Limits) (m : Machine) (es : List Event) → m.now ≤ (end_of l m es).now
+later-run l m [] = omega arith
+later-run l m (Tick actor reading ∷ es) = omega (arith, later-run l (step l m (Tick actor reading)) es)
+later-run l m (Drop id ∷ es) = later-run l (step l m (Drop id)) es
+later-run l m (Dispatch act ∷ es) = later-run l (step l m (Dispatch act)) es
+later-run l m (Take actor id ∷ es) = later-run l (step l m (Take actor id)) es
+later-run l m (Expand actor id marks ∷ es) = later-run l (step l m (Expand actor id marks)) es
+later-run l m (Publish actor id plan ∷ es) = later-run l (step l m (Publish actor id plan)) es
+later-run l m (Limit actor id made marks ∷ es) = later-run l (step l m (Limit actor id made marks)) es
+later-run l m (Exhaust ∷ es) = later-run l (step l m Exhaust) es
+later-run l m (Halt cause ∷ es) = later-run l (step l m (Halt cause)) es
 
-pub job-stands : (p : Problem) (l : Limits) → FrontsLive p l → (history : List Event) (actor : ℕ) (job : JobView) → IsRun p l history → IsJobOf l history actor job → JobStands l history actor job
+-- what a run says of a job that was taken in it
+pub record JobStands (p : Problem) (l : Limits) (history : List Event) (actor : ℕ) (job : JobView) : Type 0 where
+  pub held : IsHeld (state_of l history) actor job.id job.node.word
+  pub clock : job.clock ≤ (state_of l history).now
+  pub commits : job.commits ≡ []
+  pub live : Live p l 0 [] job.node.word
+  pub short : length job.node.word ≤ job.id
+
+pub job-stands : (p : Problem) (l : Limits) → FrontsLive p l → (history : List Event) (actor : ℕ) (job : JobView) → IsRun p l history → IsJobOf l history actor job → JobStands p l history actor job
 job-stands p l fronts history actor job run j =
     let front : List Event = j.front ++ Take actor job.id ∷ [] in
     let m : Machine = state_of l front in
     let parts : AreLegal p l first front × AreLegal p l m j.rest = legal-parts p l first front j.rest (subst (AreLegal p l first) j.split run.legal) in
     let t : IsTree p l m = tree-run p l fronts first front parts.0 (tree-first p l fronts) in
     let given : j.node.id < m.made = ltb-true j.node.id m.made (each-in (λ n. is_below m.made n ≡ true) m.nodes j.node (each-true (is_below m.made) m.nodes t.below) j.taken.there) in
-    let same : (n : Node) → IsIn n m.nodes → n.id ≡ job.id → n ≡ j.node = λ n i e. same-node n j.node m.nodes t.early.told_apart i j.taken.there (e ∙ sym j.taken.named) in
+    let same : (n : Node) → IsIn n m.nodes → n.id ≡ job.id → n ≡ j.node = λ n i e. same-node n j.node m.nodes t.told_apart i j.taken.there (e ∙ sym j.taken.named) in
     let held : IsHeld m actor job.id job.node.word = record {
       given = subst (λ k. k < m.made) j.taken.named given;
-      word = λ n i e. ap (λ k. k.word) (same n i e) ∙ sym j.word;
-      taker = λ n i e. ap (λ k. k.taker) (same n i e) ∙ j.taken.taken;
+      word = λ n i e. ap (λ (k : Node). k.word) (same n i e) ∙ sym j.word;
+      taker = λ n i e. ap (λ (k : Node). k.taker) (same n i e) ∙ j.taken.taken;
     } in
+    let ends : end_of l m j.rest ≡ state_of l history = sym (ap (state_of l) j.split ∙ end-append l first front j.rest) in
     record {
-      held = subst (λ s. IsHeld s actor job.id job.node.word) (sym (ap (state_of l) j.split ∙ end-append l first front j.rest)) (held-run p l actor job.id job.node.word m j.rest parts.1 held);
-      clock = j.clock ∙ t.early.still;
-      commits = j.commits ∙ t.early.free;
+      held = subst (λ s. IsHeld s actor job.id job.node.word) ends (held-run p l actor job.id job.node.word m j.rest parts.1 held);
+      clock = subst (λ k. job.clock ≤ k) (ap (λ (s : Machine). s.now) ends) (subst (λ k. k ≤ (end_of l m j.rest).now) (sym j.clock) (later-run l m j.rest));
+      commits = j.commits ∙ t.free;
+      live = subst (λ w. Live p l 0 [] w) (sym j.word) (t.live j.node j.taken.there);
+      short = subst (λ k. length job.node.word ≤ k) j.taken.named (subst (λ (w : List Mark). length w ≤ j.node.id) (sym j.word) (t.short j.node j.taken.there));
     }

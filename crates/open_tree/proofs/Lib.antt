@@ -1,9 +1,7 @@
+pub mod Turns
 pub mod Clocks
 pub mod Keeping
-pub mod LiveMarks
 pub mod Held
-pub mod Deeds
-pub mod Standing
 pub mod Taking
+pub mod Offspring
 pub mod Merging
-pub mod Ranks

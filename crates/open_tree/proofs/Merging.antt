@@ -1,233 +1,203 @@
--- What a turn of a merge needs, what it keeps, and what its answer says.
-use Rattle.std.proofs.Common.{◌≡◌, refl, sym, ap, subst, ◌∙◌, ℕ, ◌+◌, ◌<◌, ◌≤◌, ◌^◌, inl, inr, ◌||◌, ◌&&◌, ◌==◌, max, Bool, true, false, not, cond, List, [], ◌∷◌, ◌++◌, length, map, Option, Some, None, arith}
+-- What a merge knows of its sprouts, and what its turn gives.
+use Rattle.std.proofs.Common.{◌≡◌, refl, sym, ap, subst, ◌∙◌, ℕ, ◌≤◌, ◌^◌, inl, inr, All, ◌||◌, ◌&&◌, ◌==◌, Bool, true, false, cond, List, [], ◌∷◌, ◌++◌, map, Option, Some, None, Result, Ok, Err, IfOk, IfSome, IfNone, OnOk, OnErr, arith, append_assoc, append-nil}
 use Rattle.std.specs.List.{list_any}
-use Rattle.std.proofs.lemmas.Bool.{eq-eqb, eqb-true, ltb-true, false≢true}
-use Rattle.std.proofs.lemmas.List.Folds.{list_any-append}
+use Rattle.std.proofs.lemmas.Bool.{eq-eqb, eqb-true, false≢true}
 use Rattle.tp_spec.specs.declared.event.Event.{Event}
-use Rattle.tp_spec.specs.declared.event.Event.TheVariants.{Tick, Expand, Publish, Limit, Exhaust}
+use Rattle.tp_spec.specs.declared.event.Event.TheVariants.{Take, Expand, Publish, Limit}
 use Rattle.tp_spec.specs.declared.plan.Limits.{Limits}
 use Rattle.tp_spec.specs.declared.plan.Mark.{Mark}
 use Rattle.tp_spec.specs.declared.plan.Plan.{Plan}
 use Rattle.tp_spec.specs.declared.problem.Problem.{Problem}
-use Rattle.tp_spec.specs.Lists.{IsIn, is_empty}
-use Rattle.tp_spec.specs.Machine.{Machine, first, step, state_of, word_of, AreLiveMarks, ExpandIsLegal}
+use Rattle.tp_spec.specs.Courses.{Possible}
+use Rattle.tp_spec.specs.Lists.{IsIn}
+use Rattle.tp_spec.specs.Machine.{MayAct}
 use Rattle.tp_spec.specs.Schedules.{Live}
+use Rattle.tp_laws.specs.Histories.{IsTree}
 use Rattle.tp_laws.specs.Plans.{is_whole}
-use Rattle.tp_laws.proofs.EarlyCover.{word_of-in}
-use Rattle.tp_laws.proofs.EarlyLists.{each-in, each-true}
-use Rattle.node_state.specs.Growths.{rank_with}
-use Rattle.word_frontier.specs.Nodes.{RankedNode, FrontierView, is_taken, is_taker, children_from}
-use Rattle.word_frontier.specs.Nodes as kept
+use Rattle.tp_laws.proofs.Runs.{map-in}
+use Rattle.tp_laws.proofs.WordLaws.{fronts-live}
+use Rattle.word_frontier.specs.declared.child.Child.{Child}
+use Rattle.word_frontier.specs.Nodes.{RankedNode, is_taken, is_taker, word_at, live_at}
+use Rattle.word_network.specs.Schedules.{IsEarliest}
+use Rattle.machine_run.specs.Children.{AreChildren, IsChild}
+use Rattle.machine_run.specs.Deeds.{AreOffspring}
+use Rattle.machine_run.specs.Frontiers.{Stands, IsFrontierOf, plain_node}
+use Rattle.machine_run.specs.Turns.{IsTurn, Grows, has_outcome, is_outcome}
+use Rattle.machine_run.specs.Views.{RunView, state, word_in}
 use Rattle.open_tree.specs.declared.job.Merged.{Merged}
 use Rattle.open_tree.specs.declared.job.Merged.TheVariants as merged
-use Rattle.open_tree.specs.declared.tree.Move.{Move}
-use Rattle.open_tree.specs.declared.tree.Step.{Step}
-use Rattle.open_tree.specs.declared.tree.Step.TheVariants as does
-use Rattle.open_tree.specs.Answers.{GivesMerged}
+use Rattle.open_tree.specs.Answers.{GivesMerged, IsDeedOn}
 use Rattle.open_tree.specs.Jobs.{IsJobOf, AreSprouts}
-use Rattle.open_tree.specs.Stands.{Stands, IsFrontierOf, plain_node}
-use Rattle.open_tree.specs.Steps.{IsReady, IsReadyWord, IsPublication, IsLimit, IsExpansion, IsStep, IsMove, DoesStep}
-use Rattle.open_tree.specs.Turns.{is_outcome, has_outcome, event_list}
-use Rattle.open_tree.specs.Views.{SproutsView, TreeView}
-use Rattle.tp_laws.specs.Histories.{IsTree, is_below}
-use Rattle.tp_laws.proofs.Runs.{tree-step, map-in}
-use Rattle.tp_laws.proofs.WordLaws.{fronts-live}
+use Rattle.open_tree.specs.Steps.{AreReady, DoesDeed, EndsTurn, Finishes, HasNoPlan, IsPublication}
+use Rattle.open_tree.specs.Views.{JobView, SproutsView}
 use Rattle.open_tree.proofs.Held.{JobStands, job-stands}
-use Rattle.open_tree.proofs.LiveMarks.{sprouts-live, marks-few}
-use Rattle.open_tree.proofs.Deeds.{IsFound, found-node, expand-legal, limit-legal, publish-legal, exhaust-legal, quiet-in}
-use Rattle.open_tree.proofs.Standing.{before, ticking, tree-ticking, may-act, frontier-ticking, frontier-same, frontier-expand, frontier-some, frontier-none, stands-more, stands-tick, between}
+use Rattle.open_tree.proofs.Offspring.{children-later, part-spells, dead-spells}
+use Rattle.open_tree.proofs.Taking.{tree-at}
+use Rattle.machine_run.proofs.Outcomes.{over-of}
+use Rattle.open_tree.proofs.Turns.{HoldsNone, outcome-behind, settled-over, turn-deed, readings-turn}
 
--- what a merge knows of its sprouts
-pub record Knows (p : Problem) (l : Limits) (h : List Event) (actor : ℕ) (sprouts : SproutsView) : Type 0 where
-  pub job : JobStands l h actor sprouts.job
-  pub are : AreSprouts sprouts
-  pub problem : sprouts.job.problem ≡ p
-  pub exact : AreLiveMarks p l first sprouts.job.node.word sprouts.marks
+-- a job of a history is one of a longer history
+pub job-later : (l : Limits) (old new : List Event) (actor : ℕ) (job : JobView) → Grows old new → IsJobOf l old actor job → IsJobOf l new actor job
+job-later l old new actor job g j = record {
+  front = j.front;
+  rest = j.rest ++ g.more;
+  split = g.grown ∙ ap (λ h. h ++ g.more) j.split ∙ append_assoc (j.front ++ Take actor job.id ∷ []) j.rest g.more;
+  node = j.node;
+  taken = j.taken;
+  word = j.word;
+  clock = j.clock;
+  commits = j.commits;
+}
 
-pub knows : (p : Problem) (l : Limits) (f : FrontierView) (h : List Event) (actor : ℕ) (sprouts : SproutsView) → Stands p l f h
-    → IsJobOf l h actor sprouts.job → AreSprouts sprouts → sprouts.job.problem ≡ p → sprouts.job.limits ≡ l → Knows p l h actor sprouts
-knows p l f h actor sprouts s of are problem limits =
-    let job : JobStands l h actor sprouts.job = job-stands p l (fronts-live p l s.formed) h actor sprouts.job s.whole.run of in
-    record { job = job; are = are; problem = problem; exact = sprouts-live p l sprouts are problem limits job.clock job.commits }
+-- the word of a node that an actor took
+word-taken : (actor id : ℕ) (w : List Mark) (ns : List RankedNode) → ((n : RankedNode) → IsIn n ns → n.id ≡ id → n.word ≡ w) → is_taken actor id ns ≡ true → word_at id ns ≡ w
+word-taken actor id w [] word e = absurd (false≢true e)
+word-taken actor id w (n ∷ ns) word e = by_test (n.id == id) refl (word-taken actor id w ns (λ k i. word k (inr i))) e where
+  by_test : (b : Bool) → (n.id == id) ≡ b → (is_taken actor id ns ≡ true → word_at id ns ≡ w) → ((b && is_taker actor n.taker) || is_taken actor id ns) ≡ true → cond b n.word (word_at id ns) ≡ w
+  by_test true t ih h = word n (inl refl) (eqb-true n.id id t)
+  by_test false t ih h = ih h
 
--- the same of a tree as a caller sees it
-pub knows-at : {C : Type 0} {t u : TreeView C} {r q : SproutsView} {f : FrontierView} (actor : ℕ) → Stands t.problem t.limits f t.history → has_outcome t.history ≡ false → t ≡ u
-    → (has_outcome u.history ≡ false → IsJobOf u.limits u.history actor q.job) → r ≡ q → AreSprouts r → q.job.problem ≡ u.problem → q.job.limits ≡ u.limits → Knows t.problem t.limits t.history actor q
-knows-at {C} {t} {u} {r} {q} {f} actor s none same of is are problem limits =
-    knows t.problem t.limits f t.history actor q s
-    (subst (λ (x : TreeView C). has_outcome x.history ≡ false → IsJobOf x.limits x.history actor q.job) (sym same) of none)
-    (subst AreSprouts is are)
-    (problem ∙ sym (ap (λ (x : TreeView C). x.problem) same))
-    (limits ∙ sym (ap (λ (x : TreeView C). x.limits) same))
+-- no node of an id stands that its actor did not take
+none-stands : (actor id : ℕ) (ns : List RankedNode) → ((n : RankedNode) → IsIn n ns → n.id ≡ id → n.taker ≡ Some actor) → is_taken actor id ns ≡ false → list_any (λ n. n.id == id) (map plain_node ns) ≡ false
+none-stands actor id [] taken e = refl
+none-stands actor id (n ∷ ns) taken e = by_test (n.id == id) refl (none-stands actor id ns (λ k i. taken k (inr i))) e where
+  by_test : (b : Bool) → (n.id == id) ≡ b → (is_taken actor id ns ≡ false → list_any (λ k. k.id == id) (map plain_node ns) ≡ false) → ((b && is_taker actor n.taker) || is_taken actor id ns) ≡ false → (b || list_any (λ k. k.id == id) (map plain_node ns)) ≡ false
+  by_test true t ih h =
+      let taker : is_taker actor n.taker ≡ true = ap (is_taker actor) (taken n (inl refl) (eqb-true n.id id t)) ∙ eq-eqb actor actor refl in
+      absurd (false≢true (sym h ∙ ap (λ b. b || is_taken actor id ns) taker))
+  by_test false t ih h = ih h
 
-module _ (p : Problem) (l : Limits) (f : FrontierView) (h : List Event) (s : Stands p l f h) (none : has_outcome h ≡ false)
-    (actor reading : ℕ) (sprouts : SproutsView) (known : Knows p l h actor sprouts) where
-  abbrev id : ℕ
-  id = sprouts.job.id
+module _ (r : RunView) (actor : ℕ) (s : SproutsView) (stands : Stands r) (none : has_outcome r.history ≡ false) (of : IsJobOf r.limits r.history actor s.job) where
+  job : JobStands r.problem r.limits r.history actor s.job
+  job = job-stands r.problem r.limits (fronts-live r.problem r.limits stands.formed) r.history actor s.job stands.run of
 
-  abbrev marks : List Mark
-  marks = sprouts.marks
+  frontier : IsFrontierOf r.problem r.limits r.frontier (state r)
+  frontier = stands.frontier none
 
-  abbrev word : List Mark
-  word = sprouts.job.node.word
+  plain-in : (n : RankedNode) → IsIn n r.frontier.nodes → IsIn (plain_node n) (state r).nodes
+  plain-in n i = subst (λ ns. IsIn (plain_node n) ns) frontier.nodes (map-in plain_node n r.frontier.nodes i)
 
-  abbrev m : Machine
-  m = ticking p l f h s none actor reading
+  -- the node is gone where the actor's one does not stand
+  pub left : is_taken actor s.job.id r.frontier.nodes ≡ false → list_any (λ n. n.id == s.job.id) (state r).nodes ≡ false
+  left e = subst (λ ns. list_any (λ n. n.id == s.job.id) ns ≡ false) frontier.nodes
+      (none-stands actor s.job.id r.frontier.nodes (λ n i. job.held.taker (plain_node n) (plain-in n i)) e)
 
-  tree : IsTree p l m
-  tree = tree-ticking p l f h s none actor reading
-
-  found : is_taken actor id f.nodes ≡ true → IsFound m actor id
-  found held = found-node p f m actor id (frontier-ticking p l f h s none actor reading f refl refl) held
-
-  -- the node has the job's word
-  same-word : (held : is_taken actor id f.nodes ≡ true) → (found held).node.word ≡ word
-  same-word held = let n = found held in known.job.held.word n.node n.taken.there n.taken.named
-
-  -- whether the word is whole, told of this problem
-  told : sprouts.whole ≡ is_whole p word
-  told = known.are.told ∙ ap (λ q. is_whole q word) known.problem
-
-  ranked : sprouts.ranks ≡ map (rank_with p word) marks
-  ranked = known.are.ranked ∙ ap (λ q. map (rank_with q word) marks) known.problem
-
-  ready-word : is_taken actor id f.nodes ≡ true → IsReadyWord p l sprouts
-  ready-word held =
-      let n = found held in
-      let few : m.made ≤ max 1 l.nodes = tree.few in
-      let given : n.node.id < m.made = ltb-true n.node.id m.made (each-in (λ k. is_below m.made k ≡ true) m.nodes n.node (each-true (is_below m.made) m.nodes tree.below) n.taken.there) in
-      let short : length n.node.word ≤ n.node.id = tree.short n.node n.taken.there in
-      let few_nodes : l.nodes ≤ 200000 = s.limited.nodes in
+  pub ready : AreSprouts s → s.job.problem ≡ r.problem → s.job.limits ≡ r.limits → is_taken actor s.job.id r.frontier.nodes ≡ true → AreReady r s
+  ready are problem limits taken =
+      let t : IsTree r.problem r.limits (state r) = tree-at r stands in
+      let w : List Mark = s.job.node.word in
+      let word : word_in r s.job.id ≡ w = word-taken actor s.job.id w r.frontier.nodes (λ n i. job.held.word (plain_node n) (plain-in n i)) taken in
+      let old : AreChildren r.problem r.limits s.job.clock [] w s.children =
+      subst (λ cs. AreChildren r.problem r.limits s.job.clock cs w s.children) job.commits
+      (subst (λ l. AreChildren r.problem l s.job.clock s.job.commits w s.children) limits
+      (subst (λ p. AreChildren p s.job.limits s.job.clock s.job.commits w s.children) problem are.exact)) in
+      let now : AreChildren r.problem r.limits (state r).now [] w (live_at (state r).now s.children) =
+      children-later r.problem r.limits s.job.clock (state r).now w s.children job.clock t.clocked old in
+      let few_nodes : r.limits.nodes ≤ 200000 = stands.limited.nodes in
+      let horizon : r.limits.horizon ≤ 2 ^ 40 = stands.limited.horizon in
       record {
-        live = subst (λ w. Live p l 0 [] w) (same-word held) (tree.live n.node n.taken.there);
-        short = subst (λ w. length w < 2 ^ 31) (same-word held) (omega (arith, few, given, short, few_nodes));
+        formed = stands.formed;
+        limited = stands.limited;
+        soon = omega (arith, t.clocked, horizon);
+        free = t.free;
+        word = word;
+        sound = job.live.sound;
+        few = omega (arith, job.short, job.held.given, t.few, few_nodes);
+        told = are.told ∙ ap (λ p. is_whole p w) problem;
+        exact = subst (λ v. AreChildren r.problem r.limits (state r).now (state r).commits v (live_at (state r).now s.children)) (sym word)
+            (subst (λ cs. AreChildren r.problem r.limits (state r).now cs w (live_at (state r).now s.children)) (sym t.free) now);
+        each = subst (λ v. All (IsChild r.problem r.limits (state r).commits v) s.children) (sym word) (subst (λ cs. All (IsChild r.problem r.limits cs w) s.children) (sym t.free) old.each);
       }
 
-  pub ready : length p.goal < f.ranks → IsReady p l f actor sprouts
-  ready bounded = record {
-    bounded = bounded;
-    limited = s.limited;
-    word = ready-word;
-    sprouts = known.are;
-    problem = known.problem;
-    few_made = subst (λ k. k ≤ max 1 l.nodes) (sym s.frontier.made) tree.few;
-    few_marks = marks-few p l s.formed word marks known.exact;
-  }
+-- a deed on a node holds no reading
+deed-reads : (actor id : ℕ) (e : Event) → IsDeedOn actor id e → HoldsNone (Some e)
+deed-reads actor id e (inl h) = subst (λ d. HoldsNone (Some d)) (sym h.1) refl
+deed-reads actor id e (inr (inl h)) = subst (λ d. HoldsNone (Some d)) (sym h.1) refl
+deed-reads actor id e (inr (inr h)) = subst (λ d. HoldsNone (Some d)) (sym h.2) refl
 
-  -- a node that stands under the id was taken by this actor
-  left : is_taken actor id f.nodes ≡ false → list_any (λ n. n.id == id) (state_of l h).nodes ≡ false
-  left held = subst (λ ns. list_any (λ n. n.id == id) ns ≡ false) s.frontier.nodes (by_nodes f.nodes (λ n i. known.job.held.taker (plain_node n) (subst (λ ns. IsIn (plain_node n) ns) s.frontier.nodes (map-in plain_node n f.nodes i))) held) where
-    by_nodes : (ns : List RankedNode) → ((n : RankedNode) → IsIn n ns → n.id ≡ id → n.taker ≡ Some actor) → is_taken actor id ns ≡ false → list_any (λ n. n.id == id) (map plain_node ns) ≡ false
-    by_nodes [] taken e = refl
-    by_nodes (n ∷ ns) taken e = by_test (n.id == id) refl (by_nodes ns (λ k i. taken k (inr i))) e where
-      by_test : (b : Bool) → (n.id == id) ≡ b → (is_taken actor id ns ≡ false → list_any (λ k. k.id == id) (map plain_node ns) ≡ false)
-          → ((b && is_taker actor n.taker) || is_taken actor id ns) ≡ false → (b || list_any (λ k. k.id == id) (map plain_node ns)) ≡ false
-      by_test true t ih q =
-          let taker : n.taker ≡ Some actor = taken n (inl refl) (eqb-true n.id id t) in
-          let yes : is_taker actor n.taker ≡ true = ap (is_taker actor) taker ∙ eq-eqb actor actor refl in
-          absurd (false≢true (sym q ∙ ap (λ b. b || is_taken actor id ns) yes))
-      by_test false t ih q = ih q
+module _ (old mid new : RunView) (actor reading id : ℕ) (turn : IsTurn old.history mid.history actor reading None) where
+  pub merge-gives : (l : Limits) (answer : Merged) → Finishes mid new actor id answer → GivesMerged l old.history new.history actor reading id answer
+  merge-gives l merged.Done f = record { marks = f.0; turn = turn-deed (Expand actor id f.0) turn f.1.events; standing = f.2 }
+  merge-gives l merged.Stale f = absurd f
+  merge-gives l merged.Over f = record { deed = Some f.0; turn = turn-deed f.0 turn f.1.events; outcome = f.3; on = inr (f.0, refl, f.2) }
 
-  -- what the merge keeps, and what it answers
-  pub record Merges (g : FrontierView) (new : List Event) (answer : Merged) : Type 0 where
-    pub stands : Stands p l g new
-    pub gives : GivesMerged l h new actor reading sprouts answer
+  pub merge-ends : (answer : Merged) → Finishes mid new actor id answer → EndsTurn old new reading
+  merge-ends merged.Done f = record { read = readings-turn refl (turn-deed (Expand actor id f.0) turn f.1.events); settled = f.1.settled }
+  merge-ends merged.Stale f = absurd f
+  merge-ends merged.Over f = record { read = readings-turn (deed-reads actor id f.0 f.2) (turn-deed f.0 turn f.1.events); settled = f.1.settled }
 
-  outcome : (new rest : List Event) → new ≡ h ++ Tick actor reading ∷ rest → has_outcome rest ≡ true → has_outcome new ≡ true
-  outcome new rest grown e = ap has_outcome grown ∙ list_any-append is_outcome h (Tick actor reading ∷ rest) ∙ ap (λ b. b || has_outcome rest) none ∙ e
+-- the plan of a whole word that is live now
+pub publication : (r : RunView) (s : SproutsView) → AreReady r s → s.whole ≡ true → {q : Problem} {k : Limits} {n : ℕ} {w : List Mark} → q ≡ r.problem → k ≡ r.limits → n ≡ (state r).now → w ≡ s.job.node.word
+    → (plan : Plan) → IsEarliest q k n [] w plan → IsPublication r s.job.id plan
+publication r s known whole {q} {k} {n} {w} problem limits now word plan earliest = record {
+  whole = ap (is_whole r.problem) known.word ∙ sym known.told ∙ whole;
+  earliest =
+      subst (λ v. IsEarliest r.problem r.limits (state r).now (state r).commits v plan) (word ∙ sym known.word)
+      (subst (λ cs. IsEarliest r.problem r.limits (state r).now cs w plan) (sym known.free)
+      (subst (λ m. IsEarliest r.problem r.limits m [] w plan) now
+      (subst (λ j. IsEarliest r.problem j n [] w plan) limits
+      (subst (λ p. IsEarliest p k n [] w plan) problem earliest))));
+}
 
-  merges-stale : (g : FrontierView) (new : List Event) → is_taken actor id f.nodes ≡ false → g.nodes ≡ f.nodes → g.made ≡ f.made → new ≡ h ++ Tick actor reading ∷ [] → Merges g new merged.Stale
-  merges-stale g new held nodes made grown = record {
-    stands = stands-tick p l f h s none actor reading g new nodes made grown;
-    gives = record { events = grown; left = ap not (left held) };
-  }
+-- a word that is dead now is no plan's ..
+pub dead-plan : (r : RunView) (s : SproutsView) → AreReady r s → {q : Problem} {k : Limits} {n : ℕ} {w : List Mark} → q ≡ r.problem → k ≡ r.limits → n ≡ (state r).now → w ≡ s.job.node.word
+    → ¬ (Live q k n [] w) → HasNoPlan r s.job.id
+dead-plan r s known {q} {k} {n} {w} problem limits now word dead plan possible is =
+    let not_live : ¬ (Live r.problem r.limits (state r).now [] w) =
+    subst (λ m. ¬ (Live r.problem r.limits m [] w)) now (subst (λ j. ¬ (Live r.problem j n [] w)) limits (subst (λ p. ¬ (Live p k n [] w)) problem dead)) in
+    dead-spells r.problem r.limits known.formed w (state r).now not_live plan (subst (λ cs. Possible r.problem r.limits (state r).now cs plan) known.free possible) (is ∙ known.word ∙ sym word)
 
-  merges-publish : (g : FrontierView) (new : List Event) (plan : Plan) → IsPublication p l f actor sprouts plan → g.nodes ≡ f.nodes → g.made ≡ f.made → new ≡ h ++ Tick actor reading ∷ Publish actor id plan ∷ [] → Merges g new merged.Over
-  merges-publish g new plan is nodes made grown = record {
-    stands = stands-more p l f g h new (Tick actor reading ∷ Publish actor id plan ∷ []) s
-        (between p l f h s none, (publish-legal p l s.formed m tree actor id word (may-act p l f h s none actor reading) (found is.held) (same-word is.held) plan (sym told ∙ is.whole) is.is, tt))
-        (inl refl)
-        (frontier-same p f g (before p l f h s none) (step l m (Publish actor id plan)) nodes made refl refl s.frontier)
-        grown;
-    gives = record { events = Publish actor id plan ∷ []; grown = grown; ending = inr (inl (plan, refl)); outcome = outcome new (Publish actor id plan ∷ []) grown refl };
-  }
+-- .. and neither is one that is not whole
+pub part-plan : (r : RunView) (s : SproutsView) → AreReady r s → s.whole ≡ false → HasNoPlan r s.job.id
+part-plan r s known part plan possible is =
+    part-spells r.problem r.limits known.formed s.job.node.word (sym known.told ∙ part) (state r).now plan (subst (λ cs. Possible r.problem r.limits (state r).now cs plan) known.free possible) (is ∙ known.word)
 
-  merges-limit : (g : FrontierView) (new : List Event) (made count : ℕ) → IsLimit l f actor sprouts made count → g.nodes ≡ f.nodes → g.made ≡ f.made → new ≡ h ++ Tick actor reading ∷ Limit actor id made count ∷ [] → Merges g new merged.Over
-  merges-limit g new made count is nodes same grown = record {
-    stands = stands-more p l f g h new (Tick actor reading ∷ Limit actor id made count ∷ []) s
-        (between p l f h s none, (limit-legal p l s.formed m tree actor id word (may-act p l f h s none actor reading) (found is.held) (same-word is.held) marks made count (sym told ∙ is.part) known.exact (is.given ∙ s.frontier.made) is.counted (omega (arith, is.full, is.given, is.counted)), tt))
-        (inl refl)
-        (frontier-same p f g (before p l f h s none) (step l m (Limit actor id made count)) nodes same refl refl s.frontier)
-        grown;
-    gives = record {
-      events = Limit actor id made count ∷ [];
-      grown = grown;
-      ending = inr (inr (made, ap (λ n. Limit actor id made n ∷ []) is.counted));
-      outcome = outcome new (Limit actor id made count ∷ []) grown refl;
-    };
-  }
+-- what some found value says, and what none says
+pub some-ok : {A E : Type 0} (P Q : A → Type 0) (r : Result (Option A) E) → ((x : A) → P x → Q x) → IfOk r (λ o. IfSome o P) → IfOk r (λ o. IfSome o Q)
+some-ok P Q (Ok (Some x)) f h = f x h
+some-ok P Q (Ok None) f h = h
+some-ok P Q (Err e) f h = h
 
-  module _ (g : FrontierView) (is : IsExpansion l f actor sprouts) (nodes : g.nodes ≡ kept.without id f.nodes ++ children_from (kept.word_at id f.nodes) f.made marks sprouts.ranks) (given : g.made ≡ f.made + length marks) where
-    legal : ExpandIsLegal p l m actor id marks
-    legal = expand-legal p l s.formed m tree actor id word (may-act p l f h s none actor reading) (found is.held) (same-word is.held) marks (sym told ∙ is.part) known.exact (subst (λ k. k + length marks ≤ l.nodes) s.frontier.made is.room)
+pub none-ok : {A E : Type 0} (P Q : Type 0) (r : Result (Option A) E) → (P → Q) → IfOk r (λ o. IfNone o P) → IfOk r (λ o. IfNone o Q)
+none-ok P Q (Ok (Some x)) f h = h
+none-ok P Q (Ok None) f h = f h
+none-ok P Q (Err e) f h = h
 
-    abbrev after : Machine
-    after = step l m (Expand actor id marks)
+-- while an actor may act no outcome stands
+pub acts-standing : (r : RunView) (actor : ℕ) → MayAct r.problem r.limits (state r) actor → has_outcome r.history ≡ false
+acts-standing r actor may = sym (over-of r.limits r.history) ∙ may.between.standing
 
-    tree-after : IsTree p l after
-    tree-after = tree-step p l (fronts-live p l s.formed) m tree (Expand actor id marks) legal
+pub on-err : {A E : Type 0} (r : Result A E) (P : Type 0) → P → OnErr r P
+on-err (Ok x) P h = tt
+on-err (Err e) P h = h
 
-    frontier-after : IsFrontierOf p g after
-    frontier-after =
-        let n = found is.held in
-        let of_id : word_of id m.nodes ≡ word = word_of-in id n.node m.nodes tree.early.told_apart n.taken.there (eq-eqb n.node.id id n.taken.named) ∙ same-word is.held in
-        frontier-expand p l f g m actor id word marks sprouts.ranks of_id ranked nodes given (frontier-ticking p l f h s none actor reading f refl refl)
+-- a deed behind which an outcome stands
+pub deed-ends : (old new : RunView) (deed : Event) → is_outcome deed ≡ true → new.history ≡ old.history ++ deed ∷ [] → DoesDeed old new deed × (has_outcome new.history ≡ true)
+deed-ends old new deed ends is =
+    let over : has_outcome new.history ≡ true = ap has_outcome is ∙ outcome-behind old.history deed ends in
+    (record { events = record { events = []; grown = is ∙ sym (append-nil (old.history ++ deed ∷ [])); settling = refl }; settled = settled-over new.problem new.limits new.history over }, over)
 
-    merges-done : (new : List Event) → is_empty g.nodes ≡ false → new ≡ h ++ Tick actor reading ∷ Expand actor id marks ∷ [] → Merges g new merged.Done
-    merges-done new some grown =
-        let n = frontier-some p g after some frontier-after in
-        record {
-          stands = stands-more p l f g h new (Tick actor reading ∷ Expand actor id marks ∷ []) s
-              (between p l f h s none, (legal, tt))
-              (inr (quiet-in p l s.formed after tree-after n.0 n.1))
-              frontier-after
-              grown;
-          gives = grown;
-        }
+-- a Publish and a Limit end the search
+pub publish-finishes : (old new : RunView) (actor id k : ℕ) (plan : Plan) → k ≡ id → new.history ≡ old.history ++ Publish actor k plan ∷ [] → Finishes old new actor id merged.Over
+publish-finishes old new actor id k plan e is =
+    let ends = deed-ends old new (Publish actor k plan) refl is in (Publish actor k plan, ends.0, inr (inl (plan, ap (λ j. Publish actor j plan) e)), ends.1)
 
-    merges-exhaust : (new : List Event) → is_empty g.nodes ≡ true → new ≡ h ++ Tick actor reading ∷ Expand actor id marks ∷ Exhaust ∷ [] → Merges g new merged.Over
-    merges-exhaust new gone grown = record {
-      stands = stands-more p l f g h new (Tick actor reading ∷ Expand actor id marks ∷ Exhaust ∷ []) s
-          (between p l f h s none, (legal, (exhaust-legal p l s.formed after tree-after (between p l f h s none).standing refl (frontier-none p g after gone frontier-after), tt)))
-          (inl refl)
-          (frontier-same p g g after (step l after Exhaust) refl refl refl refl frontier-after)
-          grown;
-      gives = record { events = Expand actor id marks ∷ Exhaust ∷ []; grown = grown; ending = inl refl; outcome = outcome new (Expand actor id marks ∷ Exhaust ∷ []) grown refl };
-    }
+pub limit-finishes : (old new : RunView) (actor id k made marks : ℕ) → k ≡ id → new.history ≡ old.history ++ Limit actor k made marks ∷ [] → Finishes old new actor id merged.Over
+limit-finishes old new actor id k made marks e is =
+    let ends = deed-ends old new (Limit actor k made marks) refl is in (Limit actor k made marks, ends.0, inr (inr (made, marks, ap (λ j. Limit actor j made marks) e)), ends.1)
 
-  abbrev events : Move → List Event
-  events mv = Tick actor reading ∷ (event_list mv.deed ++ event_list mv.end)
+-- the children of a node of which no plan has the word
+pub offspring : (r : RunView) (s : SproutsView) (k : ℕ) (cs : List Child) → AreReady r s → HasNoPlan r s.job.id → k ≡ s.job.id → cs ≡ s.children → AreOffspring r k cs
+offspring r s k cs known none e same =
+    subst (λ j. AreOffspring r j cs) (sym e) (subst (λ ds. AreOffspring r s.job.id ds) (sym same) (record { incomplete = none; exact = known.exact; each = known.each }))
 
-  events-of : (mv : Move) (d e : Option Event) (a : Merged) → IsMove d e a mv → (new : List Event) → new ≡ h ++ events mv → new ≡ h ++ Tick actor reading ∷ (event_list d ++ event_list e)
-  events-of mv d e a is new grown = grown ∙ (λ i. h ++ Tick actor reading ∷ (event_list (is.deed i) ++ event_list (is.end i)))
+-- what a turn of a merge gives and how it ends, by its deed
+pub merged-ok : {E : Type 0} (l : Limits) (old mid new : RunView) (actor reading id : ℕ) (answer : Result Merged E) → IsTurn old.history mid.history actor reading None
+    → IfOk answer (Finishes mid new actor id) → IfOk answer (GivesMerged l old.history new.history actor reading id)
+merged-ok l old mid new actor reading id (Ok answer) turn f = merge-gives old mid new actor reading id turn l answer f
+merged-ok l old mid new actor reading id (Err e) turn f = tt
 
-  answered : (g : FrontierView) (new : List Event) (a b : Merged) → b ≡ a → Merges g new a → Merges g new b
-  answered g new a b e k = subst (λ c. Merges g new c) (sym e) k
-
-  pub merges : (old g : FrontierView) (new : List Event) (mv : Move) (does : Step) → old.nodes ≡ f.nodes → old.made ≡ f.made → IsStep p l f actor sprouts does → DoesStep actor sprouts old g mv does → new ≡ h ++ events mv → Merges g new mv.merged
-  merges old g new mv does.Stale nodes made is d grown =
-      answered g new merged.Stale mv.merged d.1.answer (merges-stale g new is (ap (λ (x : FrontierView). x.nodes) d.0 ∙ nodes) (ap (λ (x : FrontierView). x.made) d.0 ∙ made) (events-of mv None None merged.Stale d.1 new grown))
-  merges old g new mv (does.Publish plan) nodes made is d grown =
-      answered g new merged.Over mv.merged d.1.answer (merges-publish g new plan is (ap (λ (x : FrontierView). x.nodes) d.0 ∙ nodes) (ap (λ (x : FrontierView). x.made) d.0 ∙ made) (events-of mv (Some (Publish actor id plan)) None merged.Over d.1 new grown))
-  merges old g new mv (does.Limit given count) nodes made is d grown =
-      answered g new merged.Over mv.merged d.1.answer (merges-limit g new given count is (ap (λ (x : FrontierView). x.nodes) d.0 ∙ nodes) (ap (λ (x : FrontierView). x.made) d.0 ∙ made) (events-of mv (Some (Limit actor id given count)) None merged.Over d.1 new grown))
-  merges old g new mv does.Expand nodes made is d grown = by_test (is_empty g.nodes) refl d.move where
-    stood : g.nodes ≡ kept.without id f.nodes ++ children_from (kept.word_at id f.nodes) f.made marks sprouts.ranks
-    stood = d.nodes ∙ (λ i. kept.without id (nodes i) ++ children_from (kept.word_at id (nodes i)) (made i) marks sprouts.ranks)
-
-    given : g.made ≡ f.made + length marks
-    given = d.made ∙ ap (λ k. k + length marks) made
-
-    by_test : (b : Bool) → is_empty g.nodes ≡ b → IsMove (Some (Expand actor id marks)) (cond b (Some Exhaust) None) (cond b merged.Over merged.Done) mv → Merges g new mv.merged
-    by_test true e k = answered g new merged.Over mv.merged k.answer (merges-exhaust g is stood given new e (events-of mv (Some (Expand actor id marks)) (Some Exhaust) merged.Over k new grown))
-    by_test false e k = answered g new merged.Done mv.merged k.answer (merges-done g is stood given new e (events-of mv (Some (Expand actor id marks)) None merged.Done k new grown))
+pub ends-ok : {E : Type 0} (old mid new : RunView) (actor reading id : ℕ) (answer : Result Merged E) → IsTurn old.history mid.history actor reading None
+    → IfOk answer (Finishes mid new actor id) → OnOk answer (EndsTurn old new reading)
+ends-ok old mid new actor reading id (Ok answer) turn f = merge-ends old mid new actor reading id turn answer f
+ends-ok old mid new actor reading id (Err e) turn f = tt

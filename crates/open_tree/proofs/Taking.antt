@@ -1,94 +1,70 @@
--- What a turn of a take keeps, and what its job is.
-use Rattle.std.proofs.Common.{◌≡◌, refl, sym, ap, subst, ◌∙◌, ℕ, false, cond, List, [], ◌∷◌, ◌++◌, append_assoc, append-nil, map, inr, Some}
-use Rattle.std.proofs.lemmas.Bool.{eq-eqb}
-use Rattle.tp_spec.specs.declared.event.Event.{Event}
-use Rattle.tp_spec.specs.declared.event.Event.TheVariants.{Tick, Take}
-use Rattle.tp_spec.specs.declared.plan.Limits.{Limits}
-use Rattle.tp_spec.specs.declared.problem.Problem.{Problem}
-use Rattle.tp_spec.specs.Lists.{IsIn}
-use Rattle.tp_spec.specs.Machine.{Machine, Node, first, rank, step, state_of, is_open, open_nodes, taken_by, IsTaken, TakeIsLegal}
+-- What a turn of a take gives.
+use Rattle.std.proofs.Common.{◌≡◌, refl, sym, ap, subst, ◌∙◌, ℕ, [], ◌∷◌, ◌++◌, append-nil, Some, None}
+use Rattle.tp_spec.specs.declared.event.Event.TheVariants.{Take}
+use Rattle.tp_spec.specs.Machine.{Machine, IsTaken, rank, state_of}
 use Rattle.tp_spec.specs.Schedules.{Live}
-use Rattle.tp_laws.proofs.EarlyLists.{filter-map}
-use Rattle.word_frontier.specs.Nodes.{NodeView, FrontierView, IsLeastOpen, open_node}
-use Rattle.word_frontier.specs.Nodes as kept
-use Rattle.open_tree.specs.Views.{JobView}
-use Rattle.open_tree.specs.Answers.{GivesJob, GivesNothing}
-use Rattle.open_tree.specs.Stands.{Stands, plain_node}
-use Rattle.open_tree.specs.Turns.{has_outcome}
+use Rattle.tp_laws.specs.Clocks.{IsDeadline}
 use Rattle.tp_laws.specs.Histories.{IsTree}
-use Rattle.tp_laws.proofs.Runs.{tree-step, in-filter, map-in, end-append}
+use Rattle.tp_laws.proofs.Runs.{tree-of}
 use Rattle.tp_laws.proofs.WordLaws.{fronts-live}
-use Rattle.open_tree.proofs.Deeds.{take-legal, least-best, quiet-in}
-use Rattle.open_tree.proofs.Standing.{ticking, tree-ticking, may-act, frontier-ticking, frontier-take, stands-more, between}
+use Rattle.word_frontier.specs.Nodes.{NodeView}
+use Rattle.machine_run.specs.Deeds.{Takes, TookNode, SameTask}
+use Rattle.machine_run.specs.Frontiers.{Stands}
+use Rattle.machine_run.specs.Turns.{IsTurn}
+use Rattle.machine_run.specs.Views.{RunView, state}
+use Rattle.open_tree.specs.Views.{JobView}
+use Rattle.open_tree.specs.Answers.{GivesJob}
+use Rattle.open_tree.specs.Steps.{EndsTurn}
+use Rattle.open_tree.proofs.Turns.{turn-settles, turn-deed, readings-turn}
 
-module _ (p : Problem) (l : Limits) (f : FrontierView) (h : List Event) (s : Stands p l f h) (none : has_outcome h ≡ false) (actor reading : ℕ) where
-  abbrev m : Machine
-  m = ticking p l f h s none actor reading
+pub tree-at : (r : RunView) → Stands r → IsTree r.problem r.limits (state r)
+tree-at r s = tree-of r.problem r.limits (fronts-live r.problem r.limits s.formed) r.history s.run
 
-  -- the least open node was taken
-  module _ (id : ℕ) (v : NodeView) (least : IsLeastOpen f.nodes (open_node id v)) where
-    legal : TakeIsLegal p l m actor id
-    legal = take-legal p l s.formed m (tree-ticking p l f h s none actor reading) f actor id v (may-act p l f h s none actor reading) (frontier-ticking p l f h s none actor reading f refl refl) least
+module _ (old mid new : RunView) (actor reading : ℕ) (id : ℕ) (v : NodeView)
+    (turn : IsTurn old.history mid.history actor reading None) (takes : Takes mid new actor id v) where
+  whole-turn : IsTurn old.history new.history actor reading (Some (Take actor id))
+  whole-turn =
+      let s = takes.events.took in
+      turn-deed (Take actor id) (turn-settles turn takes.events.settling) (record { events = []; grown = takes.events.took ∙ sym (append-nil (takes.events.middle ++ Take actor id ∷ [])); settling = refl })
 
-    abbrev node : Node
-    node = plain_node (open_node id v)
+  pub take-ends : EndsTurn old new reading
+  take-ends = record { read = readings-turn refl whole-turn; settled = takes.rested.settled }
 
-    there : IsIn node m.nodes
-    there = in-filter is_open node m.nodes (least-best p f m (open_node id v) (frontier-ticking p l f h s none actor reading f refl refl) least).there
-
-    abbrev taken_node : Node
-    taken_node = record { id = id; word = v.word; taker = Some actor }
-
-    is-taken : taken_by actor id node ≡ taken_node
-    is-taken = ap (λ b. cond b taken_node node) (eq-eqb id id refl)
-
-    there-taken : IsIn taken_node (map (taken_by actor id) m.nodes)
-    there-taken = subst (λ n. IsIn n (map (taken_by actor id) m.nodes)) is-taken (map-in (taken_by actor id) node m.nodes there)
-
-    abbrev after : Machine
-    after = step l m (Take actor id)
-
-    tree-after : IsTree p l after
-    tree-after = tree-step p l (fronts-live p l s.formed) m (tree-ticking p l f h s none actor reading) (Take actor id) legal
-
-    pub stands-take : (g : FrontierView) (new : List Event) → g.nodes ≡ map (kept.taken_by actor id) f.nodes → g.made ≡ f.made → new ≡ h ++ Tick actor reading ∷ Take actor id ∷ [] → Stands p l g new
-    stands-take g new nodes made grown =
-        stands-more p l f g h new (Tick actor reading ∷ Take actor id ∷ []) s
-        (between p l f h s none, (legal, tt))
-        (inr (quiet-in p l s.formed after tree-after taken_node there-taken))
-        (frontier-take p l f g m actor id nodes made (frontier-ticking p l f h s none actor reading f refl refl))
-        grown
-
-    pub gives-job : (new : List Event) (job : JobView) → new ≡ h ++ Tick actor reading ∷ Take actor id ∷ [] → job.problem ≡ p → job.limits ≡ l → job.id ≡ id → job.node ≡ v → job.clock ≡ 0 → job.commits ≡ [] → GivesJob p l h new actor reading job
-    gives-job new job grown problem limits named is clock commits =
-        let front : List Event = h ++ Tick actor reading ∷ [] in
-        let whole : (front ++ Take actor id ∷ []) ≡ h ++ Tick actor reading ∷ Take actor id ∷ [] = append_assoc h (Tick actor reading ∷ []) (Take actor id ∷ []) in
-        let state : state_of l (front ++ Take actor id ∷ []) ≡ after = ap (state_of l) whole ∙ end-append l first h (Tick actor reading ∷ Take actor id ∷ []) in
-        let taken : IsTaken after actor id taken_node = record { there = there-taken; named = refl; taken = refl } in
-        let state_named : after ≡ state_of l (front ++ Take actor job.id ∷ []) = sym (ap (λ k. state_of l (front ++ Take actor k ∷ [])) named ∙ state) in
-        record {
-          events = grown ∙ ap (λ k. h ++ Tick actor reading ∷ Take actor k ∷ []) (sym named);
-          problem = problem;
-          limits = limits;
-          job = record {
-            front = front;
-            rest = [];
-            split = grown ∙ sym whole ∙ ap (λ k. front ++ Take actor k ∷ []) (sym named) ∙ sym (append-nil (front ++ Take actor job.id ∷ []));
-            node = taken_node;
-            taken = subst (λ k. IsTaken (state_of l (front ++ Take actor job.id ∷ [])) actor k taken_node) (sym named) (subst (λ n. IsTaken n actor id taken_node) state_named taken);
-            word = ap (λ n. n.word) is;
-            clock = clock ∙ sym tree-after.early.still ∙ ap (λ n. n.now) state_named;
-            commits = commits ∙ sym tree-after.early.free ∙ ap (λ n. n.commits) state_named;
-          };
-          live = subst (λ w. Live p l job.clock job.commits w) (sym (ap (λ n. n.word) is))
-              (subst (λ cs. Live p l job.clock cs v.word) (sym commits) (subst (λ k. Live p l k [] v.word) (sym clock) (tree-after.live taken_node there-taken)));
-          ranked = ap (λ n. n.rank) is ∙ s.frontier.ranked (open_node id v) (in-filter kept.is_open (open_node id v) f.nodes least.there) ∙ ap (λ (n : NodeView). rank p n.word) (sym is);
-        }
-
-  -- no node was open
-  pub gives-nothing : (new : List Event) → kept.open_nodes f.nodes ≡ [] → new ≡ h ++ Tick actor reading ∷ [] → GivesNothing l h new actor reading
-  gives-nothing new closed grown = record {
-    events = grown;
-    none_open = ap (λ n. open_nodes n.nodes) (ap (state_of l) grown ∙ end-append l first h (Tick actor reading ∷ []))
-        ∙ ap open_nodes (sym s.frontier.nodes) ∙ filter-map is_open plain_node f.nodes ∙ ap (map plain_node) closed;
-  }
+  pub gives-job : (job : JobView) → SameTask old new → Stands new → job.problem ≡ new.problem → job.limits ≡ new.limits → job.id ≡ id → job.node ≡ v → job.clock ≡ (state new).now → job.commits ≡ []
+      → GivesJob old.problem old.limits old.history new.history actor reading job
+  gives-job job task stands problem limits named is clock commits =
+      let t : IsTree new.problem new.limits (state new) = tree-at new stands in
+      let n : TookNode new actor id v = takes.node in
+      let here : state new ≡ state_of old.limits (takes.events.middle ++ Take actor job.id ∷ []) =
+      (λ i. state_of (task.limits i) (takes.events.took i)) ∙ ap (λ k. state_of old.limits (takes.events.middle ++ Take actor k ∷ [])) (sym named) in
+      let free : (state new).commits ≡ job.commits = t.free ∙ sym commits in
+      let live : Live old.problem old.limits job.clock job.commits job.node.word =
+      subst (λ (w : NodeView). Live old.problem old.limits job.clock job.commits w.word) (sym is)
+      (subst (λ cs. Live old.problem old.limits job.clock cs v.word) free
+      (subst (λ k. Live old.problem old.limits k (state new).commits v.word) (sym clock)
+      (subst (λ k. Live old.problem k (state new).now (state new).commits v.word) task.limits
+      (subst (λ q. Live q new.limits (state new).now (state new).commits v.word) task.problem n.live)))) in
+      let timely : IsDeadline old.problem old.limits job.commits job.node.word job.node.deadline =
+      subst (λ (w : NodeView). IsDeadline old.problem old.limits job.commits w.word w.deadline) (sym is)
+      (subst (λ cs. IsDeadline old.problem old.limits cs v.word v.deadline) free
+      (subst (λ k. IsDeadline old.problem k (state new).commits v.word v.deadline) task.limits
+      (subst (λ q. IsDeadline q new.limits (state new).commits v.word v.deadline) task.problem n.timely))) in
+      record {
+        turn = subst (λ k. IsTurn old.history new.history actor reading (Some (Take actor k))) (sym named) whole-turn;
+        standing = takes.rested.standing;
+        problem = problem ∙ task.problem;
+        limits = limits ∙ task.limits;
+        job = record {
+          front = takes.events.middle;
+          rest = [];
+          split = takes.events.took ∙ ap (λ k. takes.events.middle ++ Take actor k ∷ []) (sym named) ∙ sym (append-nil (takes.events.middle ++ Take actor job.id ∷ []));
+          node = n.node;
+          taken = subst (λ k. IsTaken (state_of old.limits (takes.events.middle ++ Take actor job.id ∷ [])) actor k n.node) (sym named) (subst (λ m. IsTaken m actor id n.node) here n.taken);
+          word = ap (λ (w : NodeView). w.word) is ∙ n.word;
+          clock = clock ∙ ap (λ (m : Machine). m.now) here;
+          commits = sym free ∙ ap (λ (m : Machine). m.commits) here;
+        };
+        live = live;
+        ranked = ap (λ (w : NodeView). w.rank) is ∙ n.ranked ∙ ap (λ q. rank q v.word) task.problem ∙ ap (λ (w : NodeView). rank old.problem w.word) (sym is);
+        timely = timely;
+      }

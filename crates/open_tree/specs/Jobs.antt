@@ -1,13 +1,12 @@
 -- What a job and its sprouts say of a history.
-use Rattle.std.specs.Prelude.{◌≡◌, ℕ, List, [], ◌∷◌, ◌++◌, map}
+use Rattle.std.specs.Prelude.{◌≡◌, ℕ, List, [], ◌∷◌, ◌++◌}
 use Rattle.tp_spec.specs.declared.event.Event.{Event}
 use Rattle.tp_spec.specs.declared.event.Event.TheVariants.{Take}
 use Rattle.tp_spec.specs.declared.plan.Limits.{Limits}
-use Rattle.tp_spec.specs.Machine.{Node, IsTaken, AreLiveMarks, state_of}
+use Rattle.tp_spec.specs.Machine.{Node, IsTaken, state_of}
 use Rattle.tp_laws.specs.Plans.{is_whole}
-use Rattle.node_state.specs.Growths.{rank_with}
+use Rattle.machine_run.specs.Children.{AreChildren}
 use Rattle.open_tree.specs.Views.{JobView, SproutsView}
-use Rattle.open_tree.specs.JobViews.{view_of}
 
 -- The history has a Take of the job's id by this actor; the job's word, clock and commitments are
 -- those of the state after it.
@@ -21,9 +20,10 @@ pub record IsJobOf (l : Limits) (history : List Event) (actor : ℕ) (job : JobV
   pub clock : job.clock ≡ (state_of l (front ++ Take actor job.id ∷ [])).now
   pub commits : job.commits ≡ (state_of l (front ++ Take actor job.id ∷ [])).commits
 
--- the marks are exactly those that make the job's word a live word under its view, in order; the
--- ranks are those of the longer words; and it is told whether the word may be a whole plan's
+-- the children are exactly the marks that make the job's word a live word under its view, in order,
+-- each with the rank and the deadline of the longer word; and it is told whether the word may be a
+-- whole plan's
 pub record AreSprouts (s : SproutsView) : Type 0 where
-  pub exact : AreLiveMarks s.job.problem s.job.limits (view_of s.job) s.job.node.word s.marks
-  pub ranked : s.ranks ≡ map (rank_with s.job.problem s.job.node.word) s.marks
+  pub exact : AreChildren s.job.problem s.job.limits s.job.clock s.job.commits s.job.node.word
+      s.children
   pub told : s.whole ≡ is_whole s.job.problem s.job.node.word

@@ -1,11 +1,7 @@
 pub mod Views
 pub mod Charter
-pub mod Room
 pub mod Turns
 pub mod Keeps
-pub mod Answers
-pub mod JobViews
 pub mod Jobs
-pub mod Stands
+pub mod Answers
 pub mod Steps
-pub mod Laws

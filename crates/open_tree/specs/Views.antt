@@ -2,9 +2,9 @@
 use Rattle.std.specs.Prelude.{ℕ, Bool, List}
 use Rattle.tp_spec.specs.declared.event.Event.{Event}
 use Rattle.tp_spec.specs.declared.plan.Limits.{Limits}
-use Rattle.tp_spec.specs.declared.plan.Mark.{Mark}
 use Rattle.tp_spec.specs.declared.plan.Timed.{Timed}
 use Rattle.tp_spec.specs.declared.problem.Problem.{Problem}
+use Rattle.word_frontier.specs.declared.child.Child.{Child}
 use Rattle.word_frontier.specs.Nodes.{NodeView}
 
 -- a job: the node that was taken, and the view under which it was
@@ -16,12 +16,10 @@ pub record JobView : Type 0 where
   pub clock : ℕ
   pub commits : List Timed
 
--- a job, the marks that make its word a live word, the ranks of these words, and whether the word
--- may be a whole plan's
+-- a job, the children of its word, and whether the word may be a whole plan's
 pub record SproutsView : Type 0 where
   pub job : JobView
-  pub marks : List Mark
-  pub ranks : List ℕ
+  pub children : List Child
   pub whole : Bool
 
 -- a tree: its problem and limits, its clock now and as it was at the start, and its history

@@ -2,8 +2,8 @@ ghost use Rattle.std.specs.Prelude.{◌≡◌};
 ghost use Rattle.open_tree.specs.Jobs.{AreSprouts};
 
 use std::marker::Model;
-use tp_spec::{Limits, List, Mark, Problem, Timed};
-use word_frontier::Node;
+use tp_spec::{Limits, List, Problem, Timed};
+use word_frontier::{Child, Node};
 
 /// A node that an actor took, and the view under which it did: the clock, the commitments, the
 /// limits and the problem.
@@ -106,13 +106,12 @@ impl<'p> Job<'p> {
     }
 }
 
-/// A job with what may come behind its word: the marks that make it a live word under its view, in
-/// order, the rank of each of these words, and whether the word itself may be a whole plan's.
+/// A job with what may come behind its word: its children under the job's view, and whether the
+/// word itself may be a whole plan's.
 #[derive(Drop)]
 pub struct Sprouts<'p> {
     job: Job<'p>,
-    marks: List<Mark>,
-    ranks: List<u32>,
+    children: List<Child>,
     whole: bool,
 }
 
@@ -126,59 +125,46 @@ impl<'p> Model for Sprouts<'p> {
 
     ghost coded = { Prim.hlevel (codes, expr.the_row.coded) };
 
-    ghost view = { λ s. record { job = s.job; marks = s.marks; ranks = s.ranks; whole = s.whole } };
+    ghost view = { λ s. record { job = s.job; children = s.children; whole = s.whole } };
 
     ghost invariant = { λ s. AreSprouts (record {
       job = s.job;
-      marks = s.marks;
-      ranks = s.ranks;
+      children = s.children;
       whole = s.whole;
     }) };
 }
 
 impl<'p> Sprouts<'p> {
-    /// The sprouts of a job: exactly the marks that make its word a live word, in order, the ranks
-    /// of these words, and whether the word may be a whole plan's. It takes no memory.
-    pub fn new(job: Job<'p>, marks: List<Mark>, ranks: List<u32>, whole: bool) -> Sprouts<'p>
-        requires { AreSprouts (record { job = job; marks = marks; ranks = ranks; whole = whole }) }
+    /// The sprouts of a job: exactly the marks that make its word a live word, in order, each with
+    /// the rank and the deadline of the longer word; and whether the word may be a whole plan's. It
+    /// takes no memory.
+    pub fn new(job: Job<'p>, children: List<Child>, whole: bool) -> Sprouts<'p>
+        requires { AreSprouts (record { job = job; children = children; whole = whole }) }
         ensures job { result.job ≡ job.entry }
-        ensures marks { result.marks ≡ marks }
+        ensures children { result.children ≡ children }
+        ensures whole { result.whole ≡ whole }
     {
         Sprouts {
             job,
-            marks,
-            ranks,
+            children,
             whole,
         }
     }
 
-    /// The id of the job's node.
-    pub fn id(&self) -> u32
-        ensures { result ≡ self.now.job.id }
+    /// The job.
+    pub fn job(&self) -> &Job<'p>
+        ensures { result.now ≡ self.now.job }
     {
-        self.job.id()
+        &self.job
     }
 
-    /// The word of the job's node.
-    pub fn word(&self) -> &[Mark]
-        ensures { result.now ≡ self.now.job.node.word }
-    {
-        self.job.node().word()
-    }
-
-    /// The marks: exactly those that make the job's word a live word, in order.
-    pub fn marks(&self) -> &[Mark]
-        ensures marks { result.now ≡ self.now.marks }
+    /// The children of the job's word: exactly the marks that make it a live word under the job's
+    /// view, in order, with the ranks and the deadlines of the longer words.
+    pub fn children(&self) -> &[Child]
+        ensures children { result.now ≡ self.now.children }
         ensures exact { AreSprouts self.now }
     {
-        self.marks.as_slice()
-    }
-
-    /// The ranks of the longer words, one for each mark.
-    pub fn ranks(&self) -> &[u32]
-        ensures { result.now ≡ self.now.ranks }
-    {
-        self.ranks.as_slice()
+        self.children.as_slice()
     }
 
     /// Whether the word may be a whole plan's.
@@ -186,19 +172,6 @@ impl<'p> Sprouts<'p> {
         ensures { result ≡ self.now.whole }
     {
         self.whole
-    }
-
-    /// The marks alone.
-    pub fn into_marks(self) -> List<Mark>
-        ensures { result ≡ self.entry.marks }
-    {
-        let Sprouts {
-            job: _,
-            marks,
-            ranks: _,
-            whole: _,
-        } = self;
-        marks
     }
 }
 
@@ -210,7 +183,8 @@ pub enum Taken<'p> {
     Over,
 }
 
-/// What a merge gives: the node was expanded; it had left the frontier; or an outcome stands.
+/// What a merge gives: the node was expanded; it had left the frontier before a deed; or an outcome
+/// stands.
 #[derive(Clone, Copy, Debug, PartialEq, Eq)]
 pub enum Merged {
     Done,

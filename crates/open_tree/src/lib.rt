@@ -1,10 +1,9 @@
-//! The tree of words that the search tries: its frontier, its turns and its history.
+//! The tree of words that the search tries: its turns, each with one reading of the clock, and its
+//! history.
 #![tactic(auto)]
 
 mod job;
-mod laws;
 mod tree;
 
 pub use job::{Job, Merged, Sprouts, Taken};
-pub use laws::outcomes_end_runs;
 pub use tree::Tree;

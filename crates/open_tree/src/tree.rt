@@ -1,27 +1,25 @@
-ghost use Rattle.std.specs.Prelude.{◌≡◌, ◌≤◌, ◌+◌, ◌<◌, ◌^◌, [], ◌∷◌, ◌++◌, length, IfOk, IfErr, OnOk, OnErr, vec_len, vec_capacity, true, false};
+ghost use Rattle.std.specs.Prelude.{◌≡◌, ◌++◌, ◌∷◌, [], length, IfOk, IfErr, IfSome, IfNone, OnOk, OnErr, true, false};
 ghost use Rattle.tp_world.specs.Counts.{one_more};
+ghost use Rattle.machine_run.specs.Deeds.{Holds, IsRested, SameTask};
+ghost use Rattle.machine_run.specs.Frontiers.{CoversAll};
+ghost use Rattle.machine_run.specs.Turns.{Grows, has_outcome};
+ghost use Rattle.open_tree.specs.Answers.{GivesTaken, GivesMerged};
 ghost use Rattle.open_tree.specs.Charter.{SameCharter};
-ghost use Rattle.open_tree.specs.Room.{HasRoom};
-ghost use Rattle.open_tree.specs.Turns.{IsTurn, IsTold, has_outcome, event_list};
-ghost use Rattle.open_tree.specs.Answers.{GivesTaken, GivesMerged, MakesMove, is_over_answer};
-ghost use Rattle.open_tree.specs.Jobs.{IsJobOf};
-ghost use Rattle.open_tree.specs.Stands.{CoversAll, IsRoot};
-ghost use Rattle.open_tree.specs.Steps.{IsReady, IsStep, DoesStep};
-ghost use Rattle.tp_laws.specs.Plans.{is_whole};
+ghost use Rattle.open_tree.specs.Jobs.{AreSprouts, IsJobOf};
+ghost use Rattle.open_tree.specs.Steps.{AreReady, EndsTurn, Finishes, HasNoPlan, IsPublication};
+ghost use Rattle.open_tree.specs.Turns.{IsTold};
 ghost use Rattle.tp_spec.specs.Machine.{IsWholeRun, state_of};
-ghost use Rattle.tp_spec.specs.Schedules.{Live};
-ghost use Rattle.word_frontier.specs.Nodes.{GivesLeast};
+ghost use Rattle.word_frontier.specs.Nodes.{live_at};
 ghost use Rattle.word_network.specs.Conditions.{AreLimits};
-ghost use Rattle.word_network.specs.Schedules.{IsEarliest};
 
 use crate::job::{Job, Merged, Sprouts, Taken};
-use node_state::root_rank;
+use machine_run::MachineRun;
 use std::alloc::Global;
 use std::marker::Model;
 use std::snapshot::Snapshot;
-use tp_spec::{Cause, Event, Limits, List, Mark, NoMemory, Plan, Problem};
+use tp_spec::{Cause, Event, Limits, List, NoMemory, Plan, Problem};
 use tp_world::Clock;
-use word_frontier::{Frontier, Node};
+use word_frontier::Child;
 use word_network::earliest_plan;
 
 /// The tree of words that are tried on a problem, with the clock that each turn reads once and the
@@ -29,12 +27,8 @@ use word_network::earliest_plan;
 #[derive(Drop)]
 pub struct Tree<'p, C: Clock> {
     alloc: Global,
-    problem: &'p Problem,
-    limits: Limits,
+    run: MachineRun<'p>,
     clock: C,
-    frontier: Frontier,
-    history: Vec<Event>,
-    over: bool,
     opened: Snapshot<C>,
     spare: bool,
 }
@@ -42,8 +36,9 @@ pub struct Tree<'p, C: Clock> {
 impl<'p, C: Clock> Model for Tree<'p, C> {
     ghost use Rattle.open_tree.specs.Views.{TreeView};
     ghost use Rattle.open_tree.specs.Keeps.{Keeps};
-    ghost use Rattle.open_tree.specs.Stands.{Stands};
-    ghost use Rattle.std.specs.Prelude.{◌≡◌, ◌<◌, length, vec_len, vec_capacity};
+    ghost use Rattle.machine_run.specs.Views.{state};
+    ghost use Rattle.std.specs.Prelude.{◌≡◌};
+    ghost use Rattle.tp_spec.specs.Machine.{IsSettled};
     ghost use Rattle.tp_spec.specs.contracts.expr.Expr as expr;
     ghost use Rattle.std.specs.Coded.{codes};
 
@@ -52,40 +47,27 @@ impl<'p, C: Clock> Model for Tree<'p, C> {
     ghost coded = { Prim.hlevel (codes, expr.the_row.coded) };
 
     ghost view = { λ t. record {
-      problem = t.problem.now;
-      limits = t.limits;
+      problem = t.run.problem;
+      limits = t.run.limits;
       clock = t.clock;
       opened = t.opened.value;
-      history = t.history.items;
+      history = t.run.history;
     } };
 
     ghost invariant = { λ t. Keeps (record {
-      len = vec_len t.history;
-      capacity = vec_capacity t.history;
       rate = C.rate t.clock;
-      scale = t.problem.now.scale;
+      scale = t.run.problem.scale;
       began = C.count t.opened.value;
       count = C.count t.clock;
       first = C.last t.opened.value;
       last = C.last t.clock;
       opened = C.given t.opened.value;
       given = C.given t.clock;
-      history = t.history.items;
-      over = t.over;
+      history = t.run.history;
       spare = t.spare;
     })
-        × Stands t.problem.now t.limits t.frontier t.history.items
-        × (C.begun t.clock ≡ C.begun t.opened.value)
-        × (length t.problem.now.goal < t.frontier.ranks) };
-}
-
-/// What a merge is going to do, with all the memory that it takes.
-#[derive(Drop)]
-enum Step {
-    Stale,
-    Publish(Plan),
-    Limit { made: u32, marks: u32 },
-    Expand,
+        × IsSettled t.run.problem t.run.limits (state t.run)
+        × (C.begun t.clock ≡ C.begun t.opened.value) };
 }
 
 impl<'p, C: Clock> Tree<'p, C> {
@@ -108,37 +90,28 @@ impl<'p, C: Clock> Tree<'p, C> {
         ensures err { IfErr result (λ e. e.1 ≡ clock) }
     {
         let opened = Snapshot::of(&clock);
-        let history = match empty_history(alloc) {
-            Ok(history) => history,
-            Err(NoMemory) => return Err((NoMemory, clock)),
+        let Ok(run) = MachineRun::new(alloc, problem, limits) else {
+            return Err((NoMemory, clock));
         };
-        let frontier = match root_of(alloc, problem) {
-            Ok(frontier) => frontier,
-            Err(NoMemory) => return Err((NoMemory, clock)),
-        };
+        run.stands();
         Ok(Tree {
             alloc,
-            problem,
-            limits,
+            run,
             clock,
-            frontier,
-            history,
-            over: false,
             opened,
             spare: false,
         })
     }
 
-    /// One turn in which an actor takes the least open node, where there is one. The job's word is
-    /// live, and the job is of the history as it stands then. Over exactly where an outcome stands.
-    /// Where memory is refused the turn is one halt; the clock was read all the same.
+    /// One turn in which an actor takes the least open node that is live, where there is one: dead
+    /// nodes that are the best, or come before it, are dropped. Over exactly where an outcome
+    /// stands at return, else nothing exactly where no node is open. Where memory is refused the
+    /// turn is one halt; the clock was read all the same.
     pub fn take(&mut self, actor: u32) -> Result<Taken<'p>, NoMemory>
         ensures whole { IsWholeRun self.new.problem self.new.limits self.new.history }
         ensures charter { SameCharter self.old self.new }
         ensures over { has_outcome self.old.history ≡ true
             → (result ≡ Ok Taken.Over) × (self.new ≡ self.old) }
-        ensures turn { has_outcome self.old.history ≡ false
-            → OnOk result (IsTurn self.old.history self.new.history actor (C.last self.new.clock)) }
         ensures count { has_outcome self.old.history ≡ false
             → C.count self.new.clock ≡ one_more (C.count self.old.clock) }
         ensures taken { has_outcome self.old.history ≡ false
@@ -147,40 +120,32 @@ impl<'p, C: Clock> Tree<'p, C> {
         ensures err { OnErr result (self.new.history ≡ self.old.history ++ Event.Halt Cause.Memory
             ∷ []) }
     {
-        if self.over {
+        if self.run.is_over() {
+            self.run.stands();
             return Ok(Taken::Over);
         }
         let reading = self.clock.read();
-        let chosen = match choose(self.alloc, &mut self.history, &self.frontier) {
-            Ok(chosen) => chosen,
+        let start = self.run.history().len();
+        match take_turn(self.alloc, &mut self.run, actor, reading) {
+            Ok(taken) => {
+                self.run.stands();
+                Ok(taken)
+            }
             Err(NoMemory) => {
-                self.history.push_reserved(Event::Halt {
-                    cause: Cause::Memory,
-                });
-                self.over = true;
+                self.run.cut_back(start);
+                self.run.stands();
                 self.spare = true;
-                return Err(NoMemory);
-            }
-        };
-        match chosen {
-            None => {
-                write_turn(&mut self.history, actor, reading, None, None);
-                Ok(Taken::Nothing)
-            }
-            Some((id, node)) => {
-                let deed = Event::Take { actor, id };
-                write_turn(&mut self.history, actor, reading, Some(deed), None);
-                self.frontier.take_least(actor);
-                let commits = List::new(self.alloc);
-                Ok(Taken::Job(Job::new(self.problem, self.limits, id, node, 0, commits)))
+                Err(NoMemory)
             }
         }
     }
 
     /// One turn in which an actor hands in the sprouts of a job that it took. A node whose word may
-    /// be a whole plan's is published, one whose marks would give too many ids is the limit, every
-    /// other one is expanded; where that leaves no node, the search is exhausted. Over exactly
-    /// where an outcome stands at return, else stale exactly where the node had left the frontier.
+    /// be a whole plan's and is live now is published with its least schedule now, one whose live
+    /// children would give too many ids is the limit, every other one is expanded with the children
+    /// that are live now: none behind a dead word. Dead best nodes are dropped before and behind
+    /// it; where that leaves no node, the search is exhausted. Over exactly where an outcome stands
+    /// at return, else stale exactly where the node had left the frontier after the first settling.
     /// Where memory is refused the turn is one halt, and the sprouts come back.
     pub fn merge(
         &mut self,
@@ -195,45 +160,33 @@ impl<'p, C: Clock> Tree<'p, C> {
         ensures charter { SameCharter self.old self.new }
         ensures over { has_outcome self.old.history ≡ true
             → (result ≡ Ok Merged.Over) × (self.new ≡ self.old) }
-        ensures turn { has_outcome self.old.history ≡ false
-            → OnOk result (IsTurn self.old.history self.new.history actor (C.last self.new.clock)) }
         ensures count { has_outcome self.old.history ≡ false
             → C.count self.new.clock ≡ one_more (C.count self.old.clock) }
         ensures merged { has_outcome self.old.history ≡ false
             → IfOk result (GivesMerged self.old.limits self.old.history self.new.history actor
-            (C.last self.new.clock) sprouts.entry) }
+            (C.last self.new.clock) sprouts.entry.job.id) }
         ensures err { OnErr result (self.new.history ≡ self.old.history ++ Event.Halt Cause.Memory
             ∷ []) }
         ensures back { IfErr result (λ e. e.1 ≡ sprouts.entry) }
     {
-        if self.over {
+        if self.run.is_over() {
+            self.run.stands();
             return Ok(Merged::Over);
         }
         let reading = self.clock.read();
-        let prepared = prepare(
-            self.alloc,
-            self.problem,
-            &self.limits,
-            &mut self.frontier,
-            &mut self.history,
-            actor,
-            &sprouts,
-        );
-        let step = match prepared {
-            Ok(step) => step,
-            Err(NoMemory) => {
-                self.history.push_reserved(Event::Halt {
-                    cause: Cause::Memory,
-                });
-                self.over = true;
-                self.spare = true;
-                return Err((NoMemory, sprouts));
+        let start = self.run.history().len();
+        match merge_turn(self.alloc, &mut self.run, actor, reading, &sprouts) {
+            Ok(merged) => {
+                self.run.stands();
+                Ok(merged)
             }
-        };
-        let Move { deed, end, merged } = move_of(&mut self.frontier, actor, sprouts, step);
-        write_turn(&mut self.history, actor, reading, deed, end);
-        self.over = is_over(merged);
-        Ok(merged)
+            Err(NoMemory) => {
+                self.run.cut_back(start);
+                self.run.stands();
+                self.spare = true;
+                Err((NoMemory, sprouts))
+            }
+        }
     }
 
     /// Ends the run with no outcome of the search, where none stands yet.
@@ -245,11 +198,12 @@ impl<'p, C: Clock> Tree<'p, C> {
             → self.new.history ≡ self.old.history ++ Event.Halt cause ∷ [] }
         ensures clock { self.new.clock ≡ self.old.clock }
     {
-        if self.over {
+        if self.run.is_over() {
+            self.run.stands();
             return;
         }
-        self.history.push_reserved(Event::Halt { cause });
-        self.over = true;
+        self.run.halt(cause);
+        self.run.stands();
     }
 
     /// All events so far. They are a run that ends settled, each plan that is still possible begins
@@ -263,14 +217,15 @@ impl<'p, C: Clock> Tree<'p, C> {
             (C.last self.now.opened) (C.last self.now.clock) (C.given self.now.opened)
             self.now.history }
     {
-        &self.history
+        self.run.stands();
+        self.run.history()
     }
 
     /// The limits.
     pub fn limits(&self) -> &Limits
         ensures { result.now ≡ self.now.limits }
     {
-        &self.limits
+        self.run.limits()
     }
 
     /// The history, which is a run that ends settled, and the clock, whose readings since the start
@@ -288,213 +243,148 @@ impl<'p, C: Clock> Tree<'p, C> {
     {
         let Tree {
             alloc: _,
-            problem: _,
-            limits: _,
+            run,
             clock,
-            frontier: _,
-            history,
-            over: _,
             opened: _,
             spare: _,
         } = self;
-        (history, clock)
+        run.stands();
+        (run.into_history(), clock)
     }
 }
 
-/// What a merge does: its deed, the end of the search if it ends, and the answer.
-#[derive(Drop)]
-struct Move {
-    deed: Option<Event>,
-    end: Option<Event>,
-    merged: Merged,
-}
-
-fn is_over(merged: Merged) -> bool
-    ensures { result ≡ is_over_answer merged }
-{
-    match merged {
-        Merged::Over => true,
-        Merged::Done => false,
-        Merged::Stale => false,
-    }
-}
-
-/// Does to the frontier what was prepared, and tells the events of it.
-fn move_of(frontier: &mut Frontier, actor: u32, sprouts: Sprouts<'_>, step: Step) -> Move
-    requires { HasRoom actor sprouts frontier.old step }
-    ensures events { MakesMove actor sprouts.entry result }
-    ensures does { DoesStep actor sprouts.entry frontier.old frontier.new result step }
-    ensures ranks { frontier.new.ranks ≡ frontier.old.ranks }
-{
-    let id = sprouts.id();
-    match step {
-        Step::Stale => Move {
-            deed: None,
-            end: None,
-            merged: Merged::Stale,
-        },
-        Step::Publish(plan) => Move {
-            deed: Some(Event::Publish { actor, id, plan }),
-            end: None,
-            merged: Merged::Over,
-        },
-        Step::Limit { made, marks } => Move {
-            deed: Some(Event::Limit {
-                actor,
-                id,
-                made,
-                marks,
-            }),
-            end: None,
-            merged: Merged::Over,
-        },
-        Step::Expand => {
-            frontier.expand(id, actor, sprouts.marks(), sprouts.ranks());
-            let marks = sprouts.into_marks();
-            let deed = Some(Event::Expand { actor, id, marks });
-            if frontier.is_empty() {
-                Move {
-                    deed,
-                    end: Some(Event::Exhaust),
-                    merged: Merged::Over,
-                }
-            } else {
-                Move {
-                    deed,
-                    end: None,
-                    merged: Merged::Done,
-                }
-            }
-        }
-    }
-}
-
-/// Writes the events of a turn. There is room for them, and for a halt behind them.
-fn write_turn(
-    history: &mut Vec<Event>,
+/// A take's turn. Where memory is refused its events are to be cut back.
+fn take_turn<'p>(
+    alloc: Global,
+    run: &mut MachineRun<'p>,
     actor: u32,
     reading: u64,
-    deed: Option<Event>,
-    end: Option<Event>,
-)
-    requires { vec_len history.old + 4 ≤ vec_capacity history.old }
-    ensures items { history.new.items ≡ history.old.items ++ Event.Tick actor reading
-        ∷ (event_list deed ++ event_list end) }
-    ensures room { vec_len history.new < vec_capacity history.new }
+) -> Result<Taken<'p>, NoMemory>
+    requires rested { IsRested run.old }
+    ensures task { SameTask run.old run.new }
+    ensures more { Grows run.old.history run.new.history }
+    ensures taken { IfOk result (GivesTaken run.old.problem run.old.limits run.old.history
+        run.new.history actor reading) }
+    ensures ended { OnOk result (EndsTurn run.old run.new reading) }
+    ensures err { OnErr result (has_outcome run.new.history ≡ false) }
 {
-    history.push_reserved(Event::Tick { actor, reading });
-    push_some(history, deed);
-    push_some(history, end);
-}
-
-fn push_some(history: &mut Vec<Event>, event: Option<Event>)
-    requires { vec_len history.old + 1 ≤ vec_capacity history.old }
-    ensures items { history.new.items ≡ history.old.items ++ event_list event }
-    ensures len { vec_len history.new ≤ vec_len history.old + 1 }
-    ensures capacity { vec_capacity history.new ≡ vec_capacity history.old }
-{
-    match event {
-        Some(event) => history.push_reserved(event),
-        None => {}
+    run.begin(actor, reading)?;
+    if run.is_over() {
+        return Ok(Taken::Over);
     }
+    let Some((id, node)) = run.take(actor)? else {
+        return Ok(Taken::Nothing);
+    };
+    run.stands();
+    let commits = List::new(alloc);
+    Ok(Taken::Job(Job::new(run.problem(), *run.limits(), id, node, run.now(), commits)))
 }
 
-/// A history with room for a halt.
-fn empty_history(alloc: Global) -> Result<Vec<Event>, NoMemory>
-    ensures { IfOk result (λ v. (v.items ≡ []) × (vec_len v < vec_capacity v)) }
+/// How many children are live at a clock.
+fn count_live(children: &[Child], now: u64) -> usize
+    ensures { result ≡ length (live_at now children.now) }
 {
-    let mut history = Vec::new(alloc);
-    match history.reserve(1) {
-        Ok(()) => Ok(history),
-        Err(_) => Err(NoMemory),
-    }
+    children
+        .iter()
+        .filter(|child| child.deadline >= now)
+        .count()
 }
 
-/// The frontier of a problem's root.
-fn root_of(alloc: Global, problem: &Problem) -> Result<Frontier, NoMemory>
-    ensures { IfOk result (IsRoot problem.now) }
-{
-    problem.keeps_the_rules();
-    let rank = root_rank(alloc, problem)?;
-    let frontier = Frontier::root(alloc, problem.goal.as_slice().len() + 1, rank)?;
-    Ok(frontier)
-}
-
-/// Makes room for a turn and a halt, and copies the least open node.
-fn choose(
+/// The plan of the least schedule of a job's word, where that may be a whole plan's and is live at
+/// the run's clock. A whole word may be dead by now.
+fn plan_now<'p>(
     alloc: Global,
-    history: &mut Vec<Event>,
-    frontier: &Frontier,
-) -> Result<Option<(u32, Node)>, NoMemory>
-    ensures least { IfOk result (GivesLeast frontier.now.nodes) }
-    ensures items { history.new.items ≡ history.old.items }
-    ensures room { OnOk result (vec_len history.new + 4 ≤ vec_capacity history.new) }
-    ensures kept_room { vec_capacity history.old ≤ vec_capacity history.new }
+    run: &MachineRun<'p>,
+    sprouts: &Sprouts<'p>,
+) -> Result<Option<Plan>, NoMemory>
+    requires standing { has_outcome run.now.history ≡ false }
+    requires ready { AreReady run.now sprouts.now }
+    ensures some { IfOk result (λ r. IfSome r (IsPublication run.now sprouts.now.job.id)) }
+    ensures none { IfOk result (λ r. IfNone r (HasNoPlan run.now sprouts.now.job.id)) }
 {
-    match history.reserve(4) {
-        Ok(()) => {}
-        Err(_) => return Err(NoMemory),
+    if !sprouts.is_whole() {
+        return Ok(None);
     }
-    frontier.least_open(alloc)
+    let word = sprouts.job().node().word();
+    earliest_plan(alloc, run.problem(), run.limits(), word, &[], run.now())
 }
 
-/// Finds what a merge is to do, and takes all the memory for it, with room for a turn and a halt.
-fn prepare(
+/// Puts the live children of a job's node in its place, where there may be so many ids, and ends
+/// the search there else.
+fn grow<'p>(run: &mut MachineRun<'p>, actor: u32, sprouts: &Sprouts<'p>) -> Result<Merged, NoMemory>
+    requires held { Holds run.old actor sprouts.now.job.id }
+    requires ready { AreReady run.old sprouts.now }
+    requires none { HasNoPlan run.old sprouts.now.job.id }
+    ensures task { SameTask run.old run.new }
+    ensures more { Grows run.old.history run.new.history }
+    ensures done { IfOk result (Finishes run.old run.new actor sprouts.now.job.id) }
+    ensures err { OnErr result (has_outcome run.new.history ≡ false) }
+{
+    let id = sprouts.job().id();
+    let children = sprouts.children();
+    let live = count_live(children, run.now());
+    if (run.made() as usize).saturating_add(live) > run.limits().nodes as usize {
+        run.limit(actor, id, children)?;
+        return Ok(Merged::Over);
+    }
+    run.expand(actor, id, children)?;
+    if run.is_over() {
+        Ok(Merged::Over)
+    } else {
+        Ok(Merged::Done)
+    }
+}
+
+/// The deed on a job's node, which stands.
+fn finish<'p>(
     alloc: Global,
-    problem: &Problem,
-    limits: &Limits,
-    frontier: &mut Frontier,
-    history: &mut Vec<Event>,
+    run: &mut MachineRun<'p>,
     actor: u32,
-    sprouts: &Sprouts<'_>,
-) -> Result<Step, NoMemory>
-    requires { IsReady problem.now limits.now frontier.old actor sprouts.now }
-    ensures step { IfOk result (IsStep problem.now limits.now frontier.old actor sprouts.now) }
-    ensures roomy { IfOk result (HasRoom actor sprouts.now frontier.new) }
-    ensures nodes { frontier.new.nodes ≡ frontier.old.nodes }
-    ensures made { frontier.new.made ≡ frontier.old.made }
-    ensures ranks { frontier.new.ranks ≡ frontier.old.ranks }
-    ensures items { history.new.items ≡ history.old.items }
-    ensures room { OnOk result (vec_len history.new + 4 ≤ vec_capacity history.new) }
-    ensures kept_room { vec_capacity history.old ≤ vec_capacity history.new }
+    sprouts: &Sprouts<'p>,
+) -> Result<Merged, NoMemory>
+    requires held { Holds run.old actor sprouts.now.job.id }
+    requires ready { AreReady run.old sprouts.now }
+    ensures task { SameTask run.old run.new }
+    ensures more { Grows run.old.history run.new.history }
+    ensures done { IfOk result (Finishes run.old run.new actor sprouts.now.job.id) }
+    ensures err { OnErr result (has_outcome run.new.history ≡ false) }
 {
-    match history.reserve(4) {
-        Ok(()) => {}
-        Err(_) => return Err(NoMemory),
+    match plan_now(alloc, run, sprouts)? {
+        Some(plan) => {
+            run.publish(actor, sprouts.job().id(), plan)?;
+            Ok(Merged::Over)
+        }
+        None => grow(run, actor, sprouts),
     }
-    if !frontier.is_taken(sprouts.id(), actor) {
-        return Ok(Step::Stale);
-    }
-    if sprouts.is_whole() {
-        let plan = plan_of_word(alloc, problem, limits, sprouts.word())?;
-        return Ok(Step::Publish(plan));
-    }
-    let marks = sprouts.marks().len();
-    if (frontier.made() as usize).saturating_add(marks) > limits.nodes as usize {
-        return Ok(Step::Limit {
-            made: frontier.made(),
-            marks: marks as u32,
-        });
-    }
-    frontier.reserve(marks)?;
-    Ok(Step::Expand)
 }
 
-/// The plan of the least schedule of a live word that may be a whole plan's.
-fn plan_of_word(
+/// A merge's turn. Where memory is refused its events are to be cut back.
+fn merge_turn<'p>(
     alloc: Global,
-    problem: &Problem,
-    limits: &Limits,
-    word: &[Mark],
-) -> Result<Plan, NoMemory>
-    requires limits { AreLimits limits.now }
-    requires live { Live problem.now limits.now 0 [] word.now }
-    requires few { length word.now < 2 ^ 31 }
-    requires whole { is_whole problem.now word.now ≡ true }
-    ensures { IfOk result (IsEarliest problem.now limits.now 0 [] word.now) }
+    run: &mut MachineRun<'p>,
+    actor: u32,
+    reading: u64,
+    sprouts: &Sprouts<'p>,
+) -> Result<Merged, NoMemory>
+    requires rested { IsRested run.old }
+    requires job { IsJobOf run.old.limits run.old.history actor sprouts.now.job }
+    requires problem { sprouts.now.job.problem ≡ run.old.problem }
+    requires limits { sprouts.now.job.limits ≡ run.old.limits }
+    requires sprouts { AreSprouts sprouts.now }
+    ensures task { SameTask run.old run.new }
+    ensures more { Grows run.old.history run.new.history }
+    ensures merged { IfOk result (GivesMerged run.old.limits run.old.history run.new.history actor
+        reading sprouts.now.job.id) }
+    ensures ended { OnOk result (EndsTurn run.old run.new reading) }
+    ensures err { OnErr result (has_outcome run.new.history ≡ false) }
 {
-    match earliest_plan(alloc, problem, limits, word, &[], 0)? {
-        Some(plan) => Ok(plan),
-        None => unreachable!(),
+    run.begin(actor, reading)?;
+    if run.is_over() {
+        return Ok(Merged::Over);
     }
+    run.stands();
+    if !run.is_taken(sprouts.job().id(), actor) {
+        return Ok(Merged::Stale);
+    }
+    finish(alloc, run, actor, sprouts)
 }

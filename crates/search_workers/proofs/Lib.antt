@@ -1,3 +1,4 @@
+pub mod LiveMarks
 pub mod OneWorker
 pub mod OneJob
-pub mod LiveMarks
+pub mod ShortWay

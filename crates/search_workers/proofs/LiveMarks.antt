@@ -1,9 +1,9 @@
 -- Which of the marks that may follow a word are live, put together mark by mark.
-use Rattle.std.proofs.Common.{◌≡◌, refl, sym, ap, subst, ◌∙◌, inl, inr, ℕ, zero, suc, ◌+◌, ◌<◌, ◌≤◌, Bool, true, false, ◌&&◌, ◌||◌, cond, List, [], ◌∷◌, ◌++◌, length, map, take, count_by, get_or, arith}
-use Rattle.std.specs.List.{AllByRecursion as Each}
+use Rattle.std.proofs.Common.{◌≡◌, refl, sym, ap, subst, ◌∙◌, inl, inr, ℕ, zero, suc, ◌+◌, ◌<◌, Bool, true, false, ◌&&◌, ◌||◌, cond, List, [], ◌∷◌, ◌++◌, length, map, take, get_or, arith}
+use Rattle.std.specs.List.{All, AllByRecursion as Each}
 use Rattle.std.proofs.lemmas.Bool.{and_from, false≢true}
-use Rattle.std.proofs.lemmas.List.{length-append, map-append, take_more, get_or-map}
-use Rattle.std.proofs.lemmas.List.Sums.{sum_by-cons}
+use Rattle.std.proofs.lemmas.List.Elements.{All-append, All-from_recursion}
+use Rattle.std.proofs.lemmas.List.{map-append, take_more, get_or-map}
 use Rattle.tp_spec.specs.declared.plan.Item.{Item}
 use Rattle.tp_spec.specs.declared.plan.Item.TheVariants.{TimedAt, End, Start}
 use Rattle.tp_spec.specs.declared.plan.Mark.{Mark}
@@ -11,29 +11,22 @@ use Rattle.tp_spec.specs.declared.problem.Problem.{Problem}
 use Rattle.tp_spec.specs.Items.{all_items, item_before}
 use Rattle.tp_spec.specs.Lists.{IsIn, each_next}
 use Rattle.tp_spec.specs.Machine.{AreLiveMarks, mark_before}
-use Rattle.tp_spec.specs.Schedules.{Live}
-use Rattle.tp_spec.specs.Words.{Sound, at_start, progress, may_follow, groups, acts_of}
-use Rattle.tp_laws.specs.Early.{LiveByMark, MarksAreStarts}
+use Rattle.tp_spec.specs.Words.{Sound, at_start, progress, may_follow}
 use Rattle.tp_laws.proofs.EarlyLists.{Rising, rising-filter, in-left, in-right}
 use Rattle.tp_laws.proofs.EarlyReading.{follow-append, follow-back}
-use Rattle.tp_laws.proofs.Ends.{groups-append}
 use Rattle.tp_laws.proofs.Runs.{in-append, in-map, in-filter, map-in}
 use Rattle.tp_laws.proofs.WordOfLists.{filter-in, filter-passes, rising-append}
 use Rattle.tp_laws.proofs.WordOfHappenings.{HasItem, item-in, items-rise}
 use Rattle.node_state.specs.Growths.{mark_of, marks_by, next_marks, rank_with}
-use Rattle.open_tree.specs.JobViews.{view_of}
+use Rattle.machine_run.specs.Children.{AreChildren, marks_of, view_at}
 use Rattle.open_tree.specs.Views.{JobView}
-use Rattle.open_tree.proofs.LiveMarks.{Fits, fits-mark, steady-read}
+use Rattle.word_frontier.specs.declared.child.Child.{Child}
+use Rattle.machine_run.proofs.LiveMarks.{Fits, fits-mark, steady-read}
 use Rattle.node_state.specs.Growths.{IsGrowthOf}
 use Rattle.node_state.specs.declared.growth.Growth.{Growth}
 use Rattle.open_tree.specs.Jobs.{AreSprouts}
 use Rattle.tp_laws.specs.Plans.{is_whole}
-use Rattle.search_workers.specs.Sprouting.{AreThose, IsLiveMark, HasRest, KeptView, AreKept}
-
--- how many groups a word has, mark by mark
-pub groups-counted : (w : List Mark) → count_by (λ m. m.fresh) w ≡ groups w
-groups-counted [] = refl
-groups-counted (m ∷ w) = sum_by-cons (λ x. cond x.fresh 1 0) m w ∙ ap (λ n. cond m.fresh 1 0 + n) (groups-counted w)
+use Rattle.search_workers.specs.Sprouting.{AreThose, IsLiveMark, AreKept}
 
 module _ {A : Type 0} (P : A → Type 0) where
   -- one member more, which has the property or has it not
@@ -155,60 +148,41 @@ rising-next lt (x ∷ []) r = refl
 rising-next lt (x ∷ y ∷ xs) r = and_from _ _ r.0.0 (rising-next lt (y ∷ xs) r.1)
 
 -- a list of the live ones of the marks that may come next is the list of the live marks
-pub kept-live : (p : Problem) (j : JobView) (marks : List Mark) → AreThose (IsLiveMark p j) (next_marks p j.node.word) marks → AreLiveMarks p j.limits (view_of j) j.node.word marks
+pub kept-live : (p : Problem) (j : JobView) (marks : List Mark) → AreThose (IsLiveMark p j) (next_marks p j.node.word) marks → AreLiveMarks p j.limits (view_at j.clock j.commits) j.node.word marks
 kept-live p j marks t = record {
   in_order = rising-next mark_before marks (those-rise (IsLiveMark p j) mark_before (next_marks p j.node.word) marks t (next-rises p j.node.word));
   live = λ a i. (those-have (IsLiveMark p j) (next_marks p j.node.word) marks t a i).0;
   all = λ a live. have-those (IsLiveMark p j) (next_marks p j.node.word) marks t a (in-next p j.node.word a live.sound) live;
 }
 
--- a word of starts alone that has a start and a group more is live with each mark that may follow
-pub rest-live : (p : Problem) (j : JobView) → LiveByMark p j.limits → MarksAreStarts p j.limits → HasRest j → Live p j.limits j.clock j.commits j.node.word
-    → AreThose (IsLiveMark p j) (next_marks p j.node.word) (next_marks p j.node.word)
-rest-live p j by_mark starts rest live = those-all (IsLiveMark p j) (next_marks p j.node.word) one where
-  w : List Mark
-  w = j.node.word
-
-  early : Live p j.limits 0 [] w
-  early = subst (λ n. Live p j.limits n [] w) rest.still (subst (λ cs. Live p j.limits j.clock cs w) rest.free live)
-
-  late : (v : List Mark) → Live p j.limits 0 [] v → Live p j.limits j.clock j.commits v
-  late v h = subst (λ n. Live p j.limits n j.commits v) (sym rest.still) (subst (λ cs. Live p j.limits 0 cs v) (sym rest.free) h)
-
-  group-more : (b : Bool) → cond b 1 0 ≤ 1
-  group-more true = omega arith
-  group-more false = omega arith
-
-  one : (a : Mark) → IsIn a (next_marks p w) → IsLiveMark p j a
-  one a i =
-      let sound : Sound p (w ++ a ∷ []) = next-sound p w early.sound a i in
-      let many : length (acts_of p (w ++ a ∷ [])) ≡ length w + 1 = starts (w ++ a ∷ []) sound ∙ length-append w (a ∷ []) in
-      let opened : groups (w ++ a ∷ []) ≡ groups w + (cond a.fresh 1 0 + 0) = groups-append w (a ∷ []) in
-      late (w ++ a ∷ []) ((by_mark w a early).1 (next-follows p w a i, record { starts = omega (arith, many, rest.starts); opened = omega (arith, opened, rest.opened, group-more a.fresh) }))
-
 -- one mark more was judged
-module _ (p : Problem) (j : JobView) (marks : List Mark) (i : ℕ) (d : Mark) (below : i < length marks) (ks : List Mark) (before : AreThose (IsLiveMark p j) (take i marks) ks) where
-  pub those-kept : (new : List Mark) → IsLiveMark p j (get_or marks i d) → new ≡ ks ++ get_or marks i d ∷ [] → AreThose (IsLiveMark p j) (take (i + 1) marks) new
-  those-kept new live is =
-      subst (AreThose (IsLiveMark p j) (take (i + 1) marks)) (sym is)
-      (subst (λ xs. AreThose (IsLiveMark p j) xs (ks ++ get_or marks i d ∷ [])) (sym (take_more marks i d below)) (those-more (IsLiveMark p j) (take i marks) ks (get_or marks i d) live before))
+module _ (p : Problem) (j : JobView) (marks : List Mark) (i : ℕ) (d : Mark) (below : i < length marks) (cs : List Child) (before : AreThose (IsLiveMark p j) (take i marks) (marks_of cs)) where
+  pub those-kept : (new : List Child) (c : Child) → c.mark ≡ get_or marks i d → IsLiveMark p j (get_or marks i d) → new ≡ cs ++ c ∷ [] → AreThose (IsLiveMark p j) (take (i + 1) marks) (marks_of new)
+  those-kept new c same live is =
+      let grown : marks_of new ≡ marks_of cs ++ get_or marks i d ∷ [] = ap marks_of is ∙ map-append (λ k. k.mark) cs (c ∷ []) ∙ ap (λ m. marks_of cs ++ m ∷ []) same in
+      subst (AreThose (IsLiveMark p j) (take (i + 1) marks)) (sym grown)
+      (subst (λ xs. AreThose (IsLiveMark p j) xs (marks_of cs ++ get_or marks i d ∷ [])) (sym (take_more marks i d below)) (those-more (IsLiveMark p j) (take i marks) (marks_of cs) (get_or marks i d) live before))
 
-  pub those-left : (new : List Mark) → (IsLiveMark p j (get_or marks i d) → ⊥) → new ≡ ks → AreThose (IsLiveMark p j) (take (i + 1) marks) new
+  pub those-left : (new : List Child) → (IsLiveMark p j (get_or marks i d) → ⊥) → new ≡ cs → AreThose (IsLiveMark p j) (take (i + 1) marks) (marks_of new)
   those-left new dead is =
-      subst (AreThose (IsLiveMark p j) (take (i + 1) marks)) (sym is)
-      (subst (λ xs. AreThose (IsLiveMark p j) xs ks) (sym (take_more marks i d below)) (those-less (IsLiveMark p j) (take i marks) ks (get_or marks i d) dead before))
+      subst (AreThose (IsLiveMark p j) (take (i + 1) marks)) (sym (ap marks_of is))
+      (subst (λ xs. AreThose (IsLiveMark p j) xs (marks_of cs)) (sym (take_more marks i d below)) (those-less (IsLiveMark p j) (take i marks) (marks_of cs) (get_or marks i d) dead before))
 
-  pub ranks-kept : (ranks rs new-ranks : List ℕ) (new : List Mark) → ranks ≡ map (rank_with p j.node.word) marks → rs ≡ map (rank_with p j.node.word) ks
-      → new ≡ ks ++ get_or marks i d ∷ [] → new-ranks ≡ rs ++ get_or ranks i 0 ∷ [] → new-ranks ≡ map (rank_with p j.node.word) new
-  ranks-kept ranks rs new-ranks new all ranked is more =
-      let one : get_or ranks i 0 ≡ rank_with p j.node.word (get_or marks i d) = ap (λ xs. get_or xs i 0) all ∙ get_or-map (rank_with p j.node.word) marks i d 0 below in
-      more ∙ (λ k. ranked k ++ one k ∷ []) ∙ sym (map-append (rank_with p j.node.word) ks (get_or marks i d ∷ [])) ∙ ap (map (rank_with p j.node.word)) (sym is)
+-- one child more
+pub each-kept : (P : Child → Type 0) (cs new : List Child) (c : Child) → All P cs → P c → new ≡ cs ++ c ∷ [] → All P new
+each-kept P cs new c all one is = subst (All P) (sym is) (All-append P cs (c ∷ []) all (All-from_recursion P (c ∷ []) (one, tt)))
+
+-- the rank beside a mark is the longer word's
+pub rank-of : (p : Problem) (w : List Mark) (marks : List Mark) (ranks : List ℕ) (i : ℕ) (d : Mark) → i < length marks → ranks ≡ map (rank_with p w) marks → get_or ranks i 0 ≡ rank_with p w (get_or marks i d)
+rank-of p w marks ranks i d below all = ap (λ xs. get_or xs i 0) all ∙ get_or-map (rank_with p w) marks i d 0 below
 
 -- what a worker keeps of a growth are the sprouts of its job
-pub sprouts-of : (p : Problem) (j : JobView) → j.problem ≡ p → (g : Growth) → IsGrowthOf p j.node.word g → (k : KeptView) → AreKept p j g.marks k
-    → AreSprouts (record { job = j; marks = k.marks; ranks = k.ranks; whole = g.whole })
-sprouts-of p j problem g grown k kept = record {
-  exact = subst (λ q. AreLiveMarks q j.limits (view_of j) j.node.word k.marks) (sym problem) (kept-live p j k.marks (subst (λ ms. AreThose (IsLiveMark p j) ms k.marks) grown.marks kept.those));
-  ranked = kept.ranked ∙ ap (λ q. map (rank_with q j.node.word) k.marks) (sym problem);
+pub sprouts-of : (p : Problem) (j : JobView) → j.problem ≡ p → (g : Growth) → IsGrowthOf p j.node.word g → (children : List Child) → AreKept p j g.marks children
+    → AreSprouts (record { job = j; children = children; whole = g.whole })
+sprouts-of p j problem g grown children kept = record {
+  exact = subst (λ q. AreChildren q j.limits j.clock j.commits j.node.word children) (sym problem) (record {
+    exact = kept-live p j (marks_of children) (subst (λ ms. AreThose (IsLiveMark p j) ms (marks_of children)) grown.marks kept.those);
+    each = kept.each;
+  });
   told = grown.whole ∙ ap (λ q. is_whole q j.node.word) (sym problem);
 }

@@ -1,33 +1,32 @@
 -- A search by one worker: each step keeps the history busy, and comes to an end.
-use Rattle.std.proofs.Common.{◌≡◌, refl, sym, ap, subst, ◌∙◌, ℕ, suc, ◌+◌, ◌-◌, ◌^◌, ◌<◌, ◌≤◌, inl, inr, ◌==◌, max, Bool, true, false, not, ◌||◌, cond, List, [], ◌∷◌, ◌++◌, length, map, if◌then◌else◌, arith, append_assoc}
+use Rattle.std.proofs.Common.{◌≡◌, refl, sym, ap, subst, ◌∙◌, ℕ, suc, ◌+◌, ◌-◌, ◌^◌, ◌<◌, ◌≤◌, inl, inr, ◌⊎◌, ◌==◌, max, Bool, true, false, not, ◌||◌, cond, List, [], ◌∷◌, ◌++◌, length, map, Option, Some, None, if◌then◌else◌, arith, append_assoc}
 use Rattle.std.specs.List.{list_all, list_any, filter}
 use Rattle.std.proofs.lemmas.Bool.{and_parts, false≢true, eq-eqb, ltb-true}
 use Rattle.std.proofs.lemmas.List.{length-map, length-append}
-use Rattle.std.proofs.lemmas.List.Folds.{list_any-append}
+use Rattle.std.proofs.lemmas.List.Folds.{list_all-append, list_any-append}
 use Rattle.tp_spec.specs.declared.event.Cause.TheVariants.{Memory}
 use Rattle.tp_spec.specs.declared.event.Event.{Event}
-use Rattle.tp_spec.specs.declared.event.Event.TheVariants.{Tick, Take, Expand, Publish, Limit, Exhaust, Halt}
+use Rattle.tp_spec.specs.declared.event.Event.TheVariants.{Tick, Drop, Dispatch, Take, Expand, Publish, Limit, Exhaust, Halt}
 use Rattle.tp_spec.specs.declared.plan.Limits.{Limits}
 use Rattle.tp_spec.specs.declared.plan.Mark.{Mark}
 use Rattle.tp_spec.specs.declared.problem.Problem.{Problem}
-use Rattle.tp_spec.specs.Following.{IsBusy}
 use Rattle.tp_spec.specs.Lists.{IsIn}
-use Rattle.tp_spec.specs.Machine.{Machine, Node, first, end_of, state_of, is_open, taken_by, without, children, word_of, AreLegal, TakeIsLegal, IsWholeRun, IsRun}
-use Rattle.tp_spec.specs.Schedules.{Live}
+use Rattle.tp_spec.specs.Machine.{Machine, Node, first, step, state_of, is_open, taken_by, without, children, word_of, AreLegal, TakeIsLegal, IsWholeRun, IsRun}
+use Rattle.tp_laws.specs.Clocks.{IsDeadline}
 use Rattle.tp_laws.specs.Histories.{IsTree, is_below}
 use Rattle.tp_laws.proofs.EarlyLists.{each-in, each-true}
-use Rattle.open_tree.specs.Answers.{GivesJob, GivesNothing, IsStale, EndsSearch, IsEnding}
+use Rattle.machine_run.specs.Turns.{IsTurn, event_list, has_outcome, is_outcome}
+use Rattle.machine_run.proofs.Outcomes.{over-of}
+use Rattle.open_tree.specs.Answers.{GivesJob, GivesNothing, FindsOutcome, IsExpanded, IsStale, EndsSearch, IsDeedOn}
 use Rattle.open_tree.specs.Charter.{SameCharter}
-use Rattle.open_tree.specs.Turns.{has_outcome, is_outcome}
-use Rattle.open_tree.specs.Views.{JobView, SproutsView, TreeView}
-use Rattle.tp_laws.proofs.Runs.{end-append, legal-parts, tree-of, in-filter, taken-id}
-use Rattle.open_tree.proofs.Standing.{over-of}
+use Rattle.open_tree.specs.Views.{JobView, TreeView}
+use Rattle.tp_laws.proofs.Runs.{legal-parts, tree-of, in-filter, taken-id}
 use Rattle.tp_laws.proofs.WordLaws.{fronts-live}
-use Rattle.search_workers.specs.OneWorker.{IsRested, HasTaken, IsBounded, IsSearching, IsHolding, IsGoing, GoesOn, HasSearched, left_of}
+use Rattle.search_workers.specs.OneWorker.{IsBounded, IsSearching, IsHolding, IsGoing, GoesOn, HasSearched, left_of, left_beside}
 use Rattle.word_network.specs.Conditions.{AreCommits, AreLimits}
 use Rattle.search_workers.specs.Endings.{HasResult, is_result}
 use Rattle.search_workers.specs.Sprouting.{CanSprout}
-use Rattle.search_workers.proofs.OneWorker.{taken, expanded, merge-busy, nodes-after, same}
+use Rattle.search_workers.proofs.OneWorker.{taken, expanded, stale, busy-over, merge-over, is_inside, IsLess, less-before, less-after, rest-inside, settled, rest, same}
 
 pub searching-first : (p : Problem) (l : Limits) → IsBounded p l → IsWholeRun p l [] → IsSearching p l []
 searching-first p l bounded whole = record { bounded = bounded; rested = record { busy = record { busy = refl }; free = refl; all_open = refl }; whole = whole; standing = refl }
@@ -66,13 +65,15 @@ any-filter test (x ∷ xs) e = by_test (any-filter test xs) (test x) refl e wher
   by_test ih true t e = absurd (cons-nil x (filter test xs) e)
   by_test ih false t e = ap (λ b. b || list_any test xs) t ∙ ih e
 
-pub not-nothing : (p : Problem) (l : Limits) (h new : List Event) (r : ℕ) → IsSearching p l h → GivesNothing l h new 1 r → ⊥
-not-nothing p l h new r s g =
-    let nodes : (state_of l new).nodes ≡ (state_of l h).nodes = ap (λ x. (state_of l x).nodes) g.events ∙ nodes-after l h (Tick 1 r ∷ []) in
-    false≢true (sym (any-filter is_open (state_of l new).nodes g.none_open) ∙ ap (list_any is_open) nodes ∙ open-any p l h s)
-
-no-outcome : (h new rest : List Event) → has_outcome h ≡ false → new ≡ h ++ rest → has_outcome rest ≡ false → has_outcome new ≡ false
-no-outcome h new rest none e is = ap has_outcome e ∙ list_any-append is_outcome h rest ∙ ap (λ b. b || has_outcome rest) none ∙ is
+-- a turn without a deed leaves nothing taken, so that the best node is open
+pub not-nothing : (p : Problem) (l : Limits) (h new : List Event) (r : ℕ) → IsSearching p l h → IsWholeRun p l new → GivesNothing l h new 1 r → ⊥
+not-nothing p l h new r s whole g = elim whole.settled [
+  | inl over ↦ false≢true (sym g.standing ∙ sym (over-of l new) ∙ over)
+  | inr quiet ↦ false≢true (sym (any-filter is_open (state_of l new).nodes g.none_open)
+      ∙ in-any is_open quiet.node (state_of l new).nodes quiet.best.there (in-all is_open quiet.node (state_of l new).nodes quiet.best.there all_open))
+] where
+  all_open : list_all is_open (state_of l new).nodes ≡ true
+  all_open = (less-after l h new r None g.turn).all is_open ((less-before l h new r None g.turn).all is_open s.rested.all_open)
 
 or-keeps : (a b c d : Bool) → (a ≡ true → b ≡ true) → (c ≡ true → d ≡ true) → (a || c) ≡ true → (b || d) ≡ true
 or-keeps true b c d f g e = ap (λ x. x || d) (f refl)
@@ -84,35 +85,17 @@ any-map id [] e = e
 any-map id (n ∷ ns) e = or-keeps (n.id == id) ((taken_by 1 id n).id == id) (list_any (λ k. k.id == id) ns) (list_any (λ k. k.id == id) (map (taken_by 1 id) ns)) (λ t. ap (λ k. k == id) (taken-id 1 id n) ∙ t) (any-map id ns) e
 
 -- the node of a legal Take is there, also after it
-taken-there : (p : Problem) (l : Limits) (h : List Event) (r id : ℕ) → AreLegal p l first (h ++ Tick 1 r ∷ Take 1 id ∷ []) → list_any (λ n. n.id == id) (map (taken_by 1 id) (state_of l h).nodes) ≡ true
-taken-there p l h r id legal = any-map id (state_of l h).nodes (in-any (λ n. n.id == id) take.node (state_of l h).nodes (in-filter is_open take.node (state_of l h).nodes take.least.there) (eq-eqb take.node.id id take.named)) where
-  take : TakeIsLegal p l (end_of l (state_of l h) (Tick 1 r ∷ [])) 1 id
-  take = ((legal-parts p l first h (Tick 1 r ∷ Take 1 id ∷ []) legal).1).1.0
+taken-there : (p : Problem) (l : Limits) (h new : List Event) (r id : ℕ) (t : IsTurn h new 1 r (Some (Take 1 id))) → IsRun p l new
+    → list_any (λ n. n.id == id) (map (taken_by 1 id) (settled l h new r (Some (Take 1 id)) t).nodes) ≡ true
+taken-there p l h new r id t run = any-map id before.nodes (in-any (λ n. n.id == id) take.node before.nodes (in-filter is_open take.node before.nodes take.least.there) (eq-eqb take.node.id id take.named)) where
+  before : Machine
+  before = settled l h new r (Some (Take 1 id)) t
 
-pub holding : (p : Problem) (l : Limits) (h new : List Event) (r : ℕ) (job : JobView) → IsSearching p l h → IsWholeRun p l new → GivesJob p l h new 1 r job → IsHolding p l new job
-holding p l h new r job s whole g = record {
-  bounded = s.bounded;
-  taken = subst (λ x. HasTaken l x job.id) (sym g.events) (taken l h r job.id s.rested (open-any p l h s));
-  there = ap (λ x. list_any (λ n. n.id == job.id) (state_of l x).nodes) g.events
-      ∙ ap (list_any (λ n. n.id == job.id)) (nodes-after l h (Tick 1 r ∷ Take 1 job.id ∷ []))
-      ∙ taken-there p l h r job.id (subst (AreLegal p l first) g.events whole.run.legal);
-  whole = whole;
-  standing = no-outcome h new (Tick 1 r ∷ Take 1 job.id ∷ []) s.standing g.events refl;
-  job = g.job;
-  problem = g.problem;
-  limits = g.limits;
-  live = g.live;
-}
+  legal : AreLegal p l (state_of l h) (Tick 1 r ∷ (t.before ++ (Take 1 id ∷ t.after)))
+  legal = (legal-parts p l first h (Tick 1 r ∷ (t.before ++ (Take 1 id ∷ t.after))) (subst (AreLegal p l first) t.grown run.legal)).1
 
-pub left-taken : (p : Problem) (l : Limits) (h new : List Event) (r : ℕ) (job : JobView) → GivesJob p l h new 1 r job → left_of l (state_of l new) ≡ left_of l (state_of l h)
-left-taken p l h new r job g =
-    let m : Machine = state_of l h in
-    ap (λ x. left_of l (state_of l x)) g.events
-    ∙ ap (left_of l) (end-append l first h (Tick 1 r ∷ Take 1 job.id ∷ []))
-    ∙ ap (λ n. (suc (max 1 l.nodes) + n) - m.made) (length-map m.nodes (taken_by 1 job.id))
-
-pub not-stale : (p : Problem) (l : Limits) (h new : List Event) (r : ℕ) (s : SproutsView) → IsHolding p l h s.job → IsStale l h new 1 r s → ⊥
-not-stale p l h new r s k g = false≢true (sym (ap not k.there) ∙ g.left)
+  take : TakeIsLegal p l before 1 id
+  take = (legal-parts p l (step l (state_of l h) (Tick 1 r)) t.before (Take 1 id ∷ t.after) legal.1).1.0
 
 keep-or-drop : (b : Bool) (n : Node) (ns rest : List Node) → length rest ≤ length ns → length (if not b then n ∷ rest else rest) ≤ suc (length ns)
 keep-or-drop true n ns rest h = omega (arith, h)
@@ -134,34 +117,99 @@ children-length : (w : List Mark) (made : ℕ) (marks : List Mark) → length (c
 children-length w made [] = refl
 children-length w made (a ∷ marks) = ap suc (children-length w (suc made) marks)
 
-less-left : (top made n n' k : ℕ) → made + k ≤ suc top → n' < n → (suc top + (n' + k)) - (made + k) < (suc top + n) - made
-less-left top made n n' k few h = omega (arith, few, h)
+less-left : (top made n n' k many : ℕ) → made + k ≤ suc top → n' < n → many ≤ n' + k → (suc top + many) - (made + k) < (suc top + n) - made
+less-left top made n n' k many few h m = omega (arith, few, h, m)
 
-pub goes-on : (p : Problem) (l : Limits) (h new : List Event) (r : ℕ) (job : JobView) (marks : List Mark) → IsHolding p l h job → IsWholeRun p l new → new ≡ h ++ Tick 1 r ∷ Expand 1 job.id marks ∷ [] → GoesOn p l h new
-goes-on p l h new r job marks k whole e = record {
-  searching = record {
-    bounded = k.bounded;
-    rested = subst (IsRested l) (sym e) (expanded l h r job.id marks k.taken);
-    whole = whole;
-    standing = no-outcome h new (Tick 1 r ∷ Expand 1 job.id marks ∷ []) k.standing e refl;
-  };
-  less = subst (λ x. left_of l x < left_of l m) (sym state) (subst (λ n. (suc (max 1 l.nodes) + n) - (m.made + length marks) < left_of l m) (sym long)
-      (less-left (max 1 l.nodes) m.made (length m.nodes) (length (without job.id m.nodes)) (length marks) few (fewer job.id m.nodes k.there)));
+-- a Take leaves as much as there was, its node counted beside the others
+pub left-taken : (p : Problem) (l : Limits) (h new : List Event) (r id : ℕ) → IsRun p l new → IsTurn h new 1 r (Some (Take 1 id)) → left_beside id l (state_of l new) ≤ left_of l (state_of l h)
+left-taken p l h new r id run t =
+    let made : (state_of l new).made ≡ (state_of l h).made = after.made ∙ before.made in
+    let one : length (without id acted) < length acted = fewer id acted (taken-there p l h new r id t run) in
+    let some : suc (length (without id (state_of l new).nodes)) ≤ length (state_of l h).nodes = omega (arith, one, after.beside id, length-map held.nodes (taken_by 1 id), before.nodes) in
+    omega (arith, made, some)
+  where
+    held : Machine
+    held = settled l h new r (Some (Take 1 id)) t
+
+    acted : List Node
+    acted = map (taken_by 1 id) (settled l h new r (Some (Take 1 id)) t).nodes
+
+    before : IsLess (settled l h new r (Some (Take 1 id)) t) (step l (state_of l h) (Tick 1 r))
+    before = less-before l h new r (Some (Take 1 id)) t
+
+    after : IsLess (state_of l new) (step l (settled l h new r (Some (Take 1 id)) t) (Take 1 id))
+    after = less-after l h new r (Some (Take 1 id)) t
+
+pub holding : (p : Problem) (l : Limits) (h new : List Event) (r : ℕ) (job : JobView) → IsSearching p l h → IsWholeRun p l new → GivesJob p l h new 1 r job → IsHolding p l new job
+holding p l h new r job s whole g = record {
+  bounded = s.bounded;
+  taken = taken l h new r job.id s.rested (open-any p l h s) g.turn;
+  whole = whole;
+  standing = g.standing;
+  job = g.job;
+  problem = g.problem;
+  limits = g.limits;
+  live = g.live;
+  timely = g.timely;
+}
+
+few-made : (p : Problem) (l : Limits) (new : List Event) → IsBounded p l → IsRun p l new → (state_of l new).made ≤ suc (max 1 l.nodes)
+few-made p l new bounded run = let b : (state_of l new).made ≤ max 1 l.nodes = (tree-of p l (fronts-live p l bounded.formed) new run).few in omega (arith, b)
+
+pub goes-on : (p : Problem) (l : Limits) (h new : List Event) (r : ℕ) (job : JobView) → IsHolding p l h job → IsWholeRun p l new → IsExpanded h new 1 r job.id → GoesOn p l job.id h new
+goes-on p l h new r job k whole g = record {
+  searching = record { bounded = k.bounded; rested = expanded l h new r job.id g.marks k.taken g.turn; whole = whole; standing = g.standing };
+  less =
+      let made : (state_of l new).made ≡ (state_of l h).made + length g.marks = after.made ∙ ap (λ n. n + length g.marks) before.made in
+      let long : length (without job.id held.nodes ++ children (word_of job.id held.nodes) held.made g.marks) ≡ length (without job.id held.nodes) + length g.marks =
+      length-append (without job.id held.nodes) (children (word_of job.id held.nodes) held.made g.marks) ∙ ap (λ n. length (without job.id held.nodes) + n) (children-length (word_of job.id held.nodes) held.made g.marks) in
+      let many : length (state_of l new).nodes ≤ length (without job.id (state_of l h).nodes) + length g.marks = omega (arith, after.nodes, long, before.beside job.id) in
+      let few : (state_of l h).made + length g.marks ≤ suc (max 1 l.nodes) = omega (arith, made, few-made p l new k.bounded whole.run) in
+      subst (λ m. (suc (max 1 l.nodes) + length (state_of l new).nodes) - m < left_beside job.id l (state_of l h)) (sym made)
+      (less-left (max 1 l.nodes) (state_of l h).made (suc (length (without job.id (state_of l h).nodes))) (length (without job.id (state_of l h).nodes)) (length g.marks) (length (state_of l new).nodes) few (omega arith) many);
 } where
-  m : Machine
-  m = state_of l h
+  deed : Option Event
+  deed = Some (Expand 1 job.id g.marks)
 
-  state : state_of l new ≡ end_of l m (Tick 1 r ∷ Expand 1 job.id marks ∷ [])
-  state = ap (state_of l) e ∙ end-append l first h (Tick 1 r ∷ Expand 1 job.id marks ∷ [])
+  held : Machine
+  held = settled l h new r (Some (Expand 1 job.id g.marks)) g.turn
 
-  long : length (without job.id m.nodes ++ children (word_of job.id m.nodes) m.made marks) ≡ length (without job.id m.nodes) + length marks
-  long = length-append (without job.id m.nodes) (children (word_of job.id m.nodes) m.made marks) ∙ ap (λ n. length (without job.id m.nodes) + n) (children-length (word_of job.id m.nodes) m.made marks)
+  before : IsLess (settled l h new r (Some (Expand 1 job.id g.marks)) g.turn) (step l (state_of l h) (Tick 1 r))
+  before = less-before l h new r (Some (Expand 1 job.id g.marks)) g.turn
 
-  bound : (state_of l new).made ≤ max 1 l.nodes
-  bound = (tree-of p l (fronts-live p l k.bounded.formed) new whole.run).few
+  after : IsLess (state_of l new) (step l (settled l h new r (Some (Expand 1 job.id g.marks)) g.turn) (Expand 1 job.id g.marks))
+  after = less-after l h new r (Some (Expand 1 job.id g.marks)) g.turn
 
-  few : m.made + length marks ≤ suc (max 1 l.nodes)
-  few = let b : m.made + length marks ≤ max 1 l.nodes = subst (λ x. x.made ≤ max 1 l.nodes) state bound in omega (arith, b)
+-- none of them has this id
+without-none : (id : ℕ) (ns : List Node) → list_any (λ n. n.id == id) ns ≡ false → length (without id ns) ≡ length ns
+without-none id [] e = refl
+without-none id (n ∷ ns) e = by_test (n.id == id) e (without-none id ns) where
+  by_test : (b : Bool) → (b || list_any (λ k. k.id == id) ns) ≡ false → (list_any (λ k. k.id == id) ns ≡ false → length (without id ns) ≡ length ns) → length (if not b then n ∷ without id ns else without id ns) ≡ suc (length ns)
+  by_test true t ih = absurd (false≢true (sym t))
+  by_test false t ih = ap suc (ih t)
+
+not-true : (b : Bool) → not b ≡ true → b ≡ false
+not-true true e = sym e
+not-true false e = refl
+
+pub goes-stale : (p : Problem) (l : Limits) (h new : List Event) (r : ℕ) (job : JobView) → IsHolding p l h job → IsWholeRun p l new → IsStale l h new 1 r job.id → GoesOn p l job.id h new
+goes-stale p l h new r job k whole g = record {
+  searching = record { bounded = k.bounded; rested = stale l h new r job.id k.taken g.turn gone; whole = whole; standing = g.standing };
+  less =
+      let made : (state_of l new).made ≡ (state_of l h).made + 0 = after.made ∙ before.made ∙ omega arith in
+      let many : length (state_of l new).nodes ≤ length (without job.id (state_of l h).nodes) + 0 = omega (arith, without-none job.id (state_of l new).nodes gone, after.beside job.id, before.beside job.id) in
+      let few : (state_of l h).made + 0 ≤ suc (max 1 l.nodes) = omega (arith, made, few-made p l new k.bounded whole.run) in
+      subst (λ m. (suc (max 1 l.nodes) + length (state_of l new).nodes) - m < left_beside job.id l (state_of l h)) (sym made)
+      (less-left (max 1 l.nodes) (state_of l h).made (suc (length (without job.id (state_of l h).nodes))) (length (without job.id (state_of l h).nodes)) 0 (length (state_of l new).nodes) few (omega arith) many);
+} where
+  gone : list_any (λ n. n.id == job.id) (state_of l new).nodes ≡ false
+  gone = not-true _ g.left
+
+  before : IsLess (settled l h new r None g.turn) (step l (state_of l h) (Tick 1 r))
+  before = less-before l h new r None g.turn
+
+  after : IsLess (state_of l new) (settled l h new r None g.turn)
+  after = less-after l h new r None g.turn
 
 pub halted : (l : Limits) (h new : List Event) → new ≡ h ++ Halt Memory ∷ [] → HasSearched l new
 halted l h new e = record {
@@ -172,37 +220,109 @@ halted l h new e = record {
   or-true true = refl
   or-true false = refl
 
--- the last of these events is a result
-ends-with : (front : List Event) (last : Event) (new : List Event) → new ≡ front ++ last ∷ [] → is_result last ≡ true → HasResult new
-ends-with front last new e result = record { front = front; last = last; is = e; result = result }
+-- Nothing is legal behind an outcome, so that it is the last event.
+abbrev EndsIn : List Event → Type 0
+EndsIn es = (front : List Event) × (last : Event) × (es ≡ front ++ last ∷ []) × (is_outcome last ≡ true)
 
-pub ended : (p : Problem) (l : Limits) (h new : List Event) (r : ℕ) (s : SproutsView) → IsHolding p l h s.job → EndsSearch h new 1 r s → HasSearched l new
-ended p l h new r s k g = record { outcome = g.outcome; stopped = inr (by_result g.events g.ending g.grown, subst (IsBusy l 1) (sym g.grown) (by_ending g.events g.ending)) } where
-  id : ℕ
-  id = s.job.id
+none-behind : (p : Problem) (l : Limits) (m : Machine) (es : List Event) → m.over ≡ true → AreLegal p l m es → es ≡ []
+none-behind p l m [] o legal = refl
+none-behind p l m (Tick a r ∷ es) o legal = absurd (false≢true (sym legal.0.standing ∙ o))
+none-behind p l m (Drop id ∷ es) o legal = absurd (false≢true (sym legal.0.in_turn.standing ∙ o))
+none-behind p l m (Dispatch act ∷ es) o legal = absurd (false≢true (sym legal.0.in_turn.standing ∙ o))
+none-behind p l m (Take a id ∷ es) o legal = absurd (false≢true (sym legal.0.may.between.standing ∙ o))
+none-behind p l m (Expand a id marks ∷ es) o legal = absurd (false≢true (sym legal.0.may.between.standing ∙ o))
+none-behind p l m (Publish a id plan ∷ es) o legal = absurd (false≢true (sym legal.0.may.between.standing ∙ o))
+none-behind p l m (Limit a id made marks ∷ es) o legal = absurd (false≢true (sym legal.0.may.between.standing ∙ o))
+none-behind p l m (Exhaust ∷ es) o legal = absurd (false≢true (sym legal.0.in_turn.standing ∙ o))
+none-behind p l m (Halt cause ∷ es) o legal = absurd (false≢true (sym legal.0.standing ∙ o))
 
-  by_result : (events : List Event) → IsEnding 1 s events → new ≡ h ++ Tick 1 r ∷ events → HasResult new
-  by_result events (inl e) is = ends-with (h ++ Tick 1 r ∷ Expand 1 id s.marks ∷ []) Exhaust new
-      (is ∙ ap (λ x. h ++ Tick 1 r ∷ x) e ∙ sym (append_assoc h (Tick 1 r ∷ Expand 1 id s.marks ∷ []) (Exhaust ∷ []))) refl
-  by_result events (inr (inl (plan, e))) is = ends-with (h ++ Tick 1 r ∷ []) (Publish 1 id plan) new
-      (is ∙ ap (λ x. h ++ Tick 1 r ∷ x) e ∙ sym (append_assoc h (Tick 1 r ∷ []) (Publish 1 id plan ∷ []))) refl
-  by_result events (inr (inr (made, e))) is = ends-with (h ++ Tick 1 r ∷ []) (Limit 1 id made (length s.marks)) new
-      (is ∙ ap (λ x. h ++ Tick 1 r ∷ x) e ∙ sym (append_assoc h (Tick 1 r ∷ []) (Limit 1 id made (length s.marks) ∷ []))) refl
+alone : (e : Event) (es : List Event) → es ≡ [] → is_outcome e ≡ true → EndsIn (e ∷ es)
+alone e es none o = ([], e, ap (λ x. e ∷ x) none, o)
 
-  by_ending : (events : List Event) → IsEnding 1 s events → IsBusy l 1 (h ++ Tick 1 r ∷ events)
-  by_ending events (inl e) = subst (λ x. IsBusy l 1 (h ++ Tick 1 r ∷ x)) (sym e) (merge-busy l h r id (Expand 1 id s.marks) (Exhaust ∷ []) k.taken refl (same id) refl)
-  by_ending events (inr (inl (plan, e))) = subst (λ x. IsBusy l 1 (h ++ Tick 1 r ∷ x)) (sym e) (merge-busy l h r id (Publish 1 id plan) [] k.taken refl (same id) refl)
-  by_ending events (inr (inr (made, e))) = subst (λ x. IsBusy l 1 (h ++ Tick 1 r ∷ x)) (sym e) (merge-busy l h r id (Limit 1 id made (length s.marks)) [] k.taken refl (same id) refl)
+behind : (e : Event) (es : List Event) → EndsIn es → EndsIn (e ∷ es)
+behind e es ends = (e ∷ ends.0, ends.1, ap (λ x. e ∷ x) ends.2, ends.3)
 
--- a job that is held may be sprouted: while the clock stands and nothing is dispatched it saw the clock at 0 and no commitments
+ends-in : (p : Problem) (l : Limits) (m : Machine) (es : List Event) → AreLegal p l m es → list_any is_outcome es ≡ true → EndsIn es
+ends-in p l m [] legal o = absurd (false≢true o)
+ends-in p l m (Tick a r ∷ es) legal o = behind (Tick a r) es (ends-in p l (step l m (Tick a r)) es legal.1 o)
+ends-in p l m (Drop id ∷ es) legal o = behind (Drop id) es (ends-in p l (step l m (Drop id)) es legal.1 o)
+ends-in p l m (Dispatch act ∷ es) legal o = behind (Dispatch act) es (ends-in p l (step l m (Dispatch act)) es legal.1 o)
+ends-in p l m (Take a id ∷ es) legal o = behind (Take a id) es (ends-in p l (step l m (Take a id)) es legal.1 o)
+ends-in p l m (Expand a id marks ∷ es) legal o = behind (Expand a id marks) es (ends-in p l (step l m (Expand a id marks)) es legal.1 o)
+ends-in p l m (Publish a id plan ∷ es) legal o = alone (Publish a id plan) es (none-behind p l (step l m (Publish a id plan)) es refl legal.1) refl
+ends-in p l m (Limit a id made marks ∷ es) legal o = alone (Limit a id made marks) es (none-behind p l (step l m (Limit a id made marks)) es refl legal.1) refl
+ends-in p l m (Exhaust ∷ es) legal o = alone Exhaust es (none-behind p l (step l m Exhaust) es refl legal.1) refl
+ends-in p l m (Halt cause ∷ es) legal o = alone (Halt cause) es (none-behind p l (step l m (Halt cause)) es refl legal.1) refl
+
+-- within a turn an outcome is a result
+inside-result : (e : Event) → is_inside e ≡ true → is_outcome e ≡ true → is_result e ≡ true
+inside-result (Tick a r) i o = absurd (false≢true o)
+inside-result (Drop id) i o = absurd (false≢true o)
+inside-result (Dispatch act) i o = absurd (false≢true o)
+inside-result (Take a id) i o = absurd (false≢true o)
+inside-result (Expand a id marks) i o = absurd (false≢true o)
+inside-result (Publish a id plan) i o = refl
+inside-result (Limit a id made marks) i o = refl
+inside-result Exhaust i o = refl
+inside-result (Halt cause) i o = absurd (false≢true i)
+
+last-passes : (test : Event → Bool) (front : List Event) (last : Event) → list_all test (front ++ last ∷ []) ≡ true → test last ≡ true
+last-passes test front last h = (and_parts _ _ (and_parts _ _ (sym (list_all-append test front (last ∷ [])) ∙ h)).1).0
+
+-- a turn that ends with an outcome ends with a result
+turn-result : (p : Problem) (l : Limits) (h new : List Event) (r : ℕ) (deed : Option Event) (t : IsTurn h new 1 r deed) → list_all is_inside (event_list deed) ≡ true → has_outcome h ≡ false → has_outcome new ≡ true → IsRun p l new → HasResult new
+turn-result p l h new r deed t inside none over run = record {
+  front = h ++ Tick 1 r ∷ ends.0;
+  last = ends.1;
+  is = t.grown ∙ ap (λ x. h ++ Tick 1 r ∷ x) ends.2 ∙ sym (append_assoc h (Tick 1 r ∷ ends.0) (ends.1 ∷ []));
+  result = inside-result ends.1 (last-passes is_inside ends.0 ends.1 (subst (λ x. list_all is_inside x ≡ true) ends.2 (rest-inside l h new r deed t inside))) ends.3;
+} where
+  events : List Event
+  events = rest l h new r deed t
+
+  legal : AreLegal p l (state_of l h) (Tick 1 r ∷ rest l h new r deed t)
+  legal = (legal-parts p l first h (Tick 1 r ∷ rest l h new r deed t) (subst (AreLegal p l first) t.grown run.legal)).1
+
+  outcome : list_any is_outcome (rest l h new r deed t) ≡ true
+  outcome = sym (ap (λ b. b || has_outcome (rest l h new r deed t)) none) ∙ sym (list_any-append is_outcome h (Tick 1 r ∷ rest l h new r deed t)) ∙ ap has_outcome (sym t.grown) ∙ over
+
+  ends : EndsIn (rest l h new r deed t)
+  ends = ends-in p l (step l (state_of l h) (Tick 1 r)) (rest l h new r deed t) legal.1 outcome
+
+-- an outcome came as the turn of a take settled
+pub found : (p : Problem) (l : Limits) (h new : List Event) (r : ℕ) → IsSearching p l h → IsWholeRun p l new → FindsOutcome h new 1 r → HasSearched l new
+found p l h new r s whole g = record {
+  outcome = g.outcome;
+  stopped = inr (turn-result p l h new r None g.turn refl s.standing g.outcome whole.run, busy-over l h new r None g.turn s.rested.busy refl s.rested.free (open-any p l h s) g.outcome);
+}
+
+-- a deed on a node stands within a turn
+deed-inside : (id : ℕ) (deed : Option Event) → (deed ≡ None) ⊎ ((e : Event) × (deed ≡ Some e) × IsDeedOn 1 id e) → list_all is_inside (event_list deed) ≡ true
+deed-inside id deed (inl e) = ap (λ d. list_all is_inside (event_list d)) e
+deed-inside id deed (inr (e, some, inl (marks, is))) = ap (λ d. list_all is_inside (event_list d)) (some ∙ ap Some is)
+deed-inside id deed (inr (e, some, inr (inl (plan, is)))) = ap (λ d. list_all is_inside (event_list d)) (some ∙ ap Some is)
+deed-inside id deed (inr (e, some, inr (inr (made, marks, is)))) = ap (λ d. list_all is_inside (event_list d)) (some ∙ ap Some is)
+
+-- an outcome stands behind a merge
+pub ended : (p : Problem) (l : Limits) (h new : List Event) (r : ℕ) (job : JobView) → IsHolding p l h job → IsWholeRun p l new → EndsSearch h new 1 r job.id → HasSearched l new
+ended p l h new r job k whole g = record {
+  outcome = g.outcome;
+  stopped = inr (turn-result p l h new r g.deed g.turn inside k.standing g.outcome whole.run, merge-over l h new r g.deed g.turn job.id k.taken.busy inside k.taken.took g.outcome);
+} where
+  inside : list_all is_inside (event_list g.deed) ≡ true
+  inside = deed-inside job.id g.deed g.on
+
+-- A job that is held may be sprouted: nothing is dispatched, its word is no longer than its id, and
+-- the clock stops one tick past the horizon.
 pub can-sprout : (p : Problem) (l : Limits) (h : List Event) (job : JobView) → IsHolding p l h job → CanSprout p job
 can-sprout p l h job k = record {
   formed = k.bounded.formed;
   problem = k.problem;
   limited = subst AreLimits (sym k.limits) k.bounded.limited;
-  commits = subst (AreCommits p) (sym free) (record { in_turn = refl; early = refl; ranged = refl });
-  clock = omega (arith, still);
-  live = subst (λ x. Live p x job.clock job.commits job.node.word) (sym k.limits) k.live;
+  commits = subst (AreCommits p) (sym (k.job.commits ∙ tree.free)) (record { in_turn = refl; early = refl; ranged = refl });
+  clock = subst (λ x. job.clock ≤ x.horizon + 1) (sym k.limits) (subst (λ n. n ≤ l.horizon + 1) (sym k.job.clock) tree.clocked);
+  sound = k.live.sound;
+  timely = subst (λ x. IsDeadline p x job.commits job.node.word job.node.deadline) (sym k.limits) k.timely;
   short = subst (λ w. length w + 1 < 2 ^ 31) (sym k.job.word) (omega (arith, few, given, short, few_nodes));
 } where
   front : List Event
@@ -213,12 +333,6 @@ can-sprout p l h job k = record {
 
   tree : IsTree p l (state_of l front)
   tree = tree-of p l (fronts-live p l k.bounded.formed) front run
-
-  still : job.clock ≡ 0
-  still = k.job.clock ∙ tree.early.still
-
-  free : job.commits ≡ []
-  free = k.job.commits ∙ tree.early.free
 
   few : (state_of l front).made ≤ max 1 l.nodes
   few = tree.few
@@ -251,35 +365,37 @@ module _ {C : Type 0} (p : Problem) (began old new : TreeView C) (going : IsGoin
   pub holding-next : (r : ℕ) (j : JobView) → IsWholeRun new.problem new.limits new.history → GivesJob old.problem old.limits old.history new.history 1 r j → IsHolding p new.limits new.history j
   holding-next r j whole g = subst (λ l. IsHolding p l new.history j) same.limits (holding p old.limits old.history new.history r j going.searching (whole-next whole) (gives-next r j g))
 
-  pub never-nothing : (r : ℕ) → GivesNothing old.limits old.history new.history 1 r → ⊥
-  never-nothing r g = not-nothing p old.limits old.history new.history r going.searching g
+  pub never-nothing : (r : ℕ) → IsWholeRun new.problem new.limits new.history → GivesNothing old.limits old.history new.history 1 r → ⊥
+  never-nothing r whole g = not-nothing p old.limits old.history new.history r going.searching (whole-next whole) g
 
-  pub going-next : (r : ℕ) (j : JobView) (third : TreeView C) → SameCharter new third → GoesOn p new.limits new.history third.history → IsGoing p began third
-  going-next r j third more on = record {
+  pub found-next : (r : ℕ) → IsWholeRun new.problem new.limits new.history → FindsOutcome old.history new.history 1 r → HasSearched new.limits new.history
+  found-next r whole g = subst (λ l. HasSearched l new.history) same.limits (found p old.limits old.history new.history r going.searching (whole-next whole) g)
+
+  pub going-next : (id : ℕ) (third : TreeView C) → SameCharter new third → GoesOn p new.limits id new.history third.history → IsGoing p began third
+  going-next id third more on = record {
     charter = charter-on going.charter (charter-on same more);
     problem = sym more.problem ∙ problem-next;
     searching = subst (λ l. IsSearching p l third.history) more.limits on.searching;
   }
 
-  pub less-next : (r : ℕ) (j : JobView) (third : TreeView C) → SameCharter new third → GivesJob old.problem old.limits old.history new.history 1 r j → GoesOn p new.limits new.history third.history
+  pub less-next : (r : ℕ) (j : JobView) (third : TreeView C) → SameCharter new third → IsWholeRun new.problem new.limits new.history → GivesJob old.problem old.limits old.history new.history 1 r j → GoesOn p new.limits j.id new.history third.history
       → left_of third.limits (state_of third.limits third.history) < left_of old.limits (state_of old.limits old.history)
-  less-next r j third more g on =
-      let kept : left_of old.limits (state_of old.limits new.history) ≡ left_of old.limits (state_of old.limits old.history) = left-taken p old.limits old.history new.history r j (gives-next r j g) in
-      let less : left_of new.limits (state_of new.limits third.history) < left_of new.limits (state_of new.limits new.history) = on.less in
-      let first : left_of third.limits (state_of third.limits third.history) < left_of new.limits (state_of new.limits new.history) = subst (λ l. left_of l (state_of l third.history) < left_of new.limits (state_of new.limits new.history)) more.limits less in
-      let second : left_of third.limits (state_of third.limits third.history) < left_of old.limits (state_of old.limits new.history) = subst (λ l. left_of third.limits (state_of third.limits third.history) < left_of l (state_of l new.history)) (sym same.limits) first in
-      subst (λ n. left_of third.limits (state_of third.limits third.history) < n) kept second
+  less-next r j third more whole g on =
+      let kept : left_beside j.id old.limits (state_of old.limits new.history) ≤ left_of old.limits (state_of old.limits old.history) = left-taken p old.limits old.history new.history r j.id (whole-next whole).run g.turn in
+      let less : left_of old.limits (state_of old.limits third.history) < left_beside j.id old.limits (state_of old.limits new.history) = subst (λ l. left_of l (state_of l third.history) < left_beside j.id l (state_of l new.history)) (sym same.limits) on.less in
+      subst (λ l. left_of l (state_of l third.history) < left_of old.limits (state_of old.limits old.history)) (same.limits ∙ more.limits) (omega (arith, kept, less))
 
 -- a merge of the sprouts of a job that is held
-module _ {C : Type 0} (p : Problem) (old new : TreeView C) (job : JobView) (s : SproutsView) (r : ℕ) (is : s.job ≡ job) (held : IsHolding p old.limits old.history job) where
-  held-sprouts : IsHolding p old.limits old.history s.job
-  held-sprouts = subst (IsHolding p old.limits old.history) (sym is) held
+module _ {C : Type 0} (p : Problem) (old new : TreeView C) (job sprouted : JobView) (r : ℕ) (is : sprouted ≡ job) (held : IsHolding p old.limits old.history job)
+    (problem : old.problem ≡ p) (same : SameCharter old new) (whole : IsWholeRun new.problem new.limits new.history) where
+  run-next : IsWholeRun p old.limits new.history
+  run-next = subst (λ q. IsWholeRun q old.limits new.history) (sym same.problem ∙ problem) (subst (λ l. IsWholeRun new.problem l new.history) (sym same.limits) whole)
 
-  pub goes-next : old.problem ≡ p → SameCharter old new → IsWholeRun new.problem new.limits new.history
-      → new.history ≡ old.history ++ Tick 1 r ∷ Expand 1 s.job.id s.marks ∷ [] → GoesOn p old.limits old.history new.history
-  goes-next problem same whole e = goes-on p old.limits old.history new.history r s.job s.marks held-sprouts run e where
-    run : IsWholeRun p old.limits new.history
-    run = subst (λ q. IsWholeRun q old.limits new.history) (sym same.problem ∙ problem) (subst (λ l. IsWholeRun new.problem l new.history) (sym same.limits) whole)
+  pub goes-next : IsExpanded old.history new.history 1 r sprouted.id → GoesOn p old.limits job.id old.history new.history
+  goes-next g = goes-on p old.limits old.history new.history r job held run-next (subst (λ j. IsExpanded old.history new.history 1 r j.id) is g)
 
-pub ended-job : (p : Problem) (l : Limits) (h new : List Event) (r : ℕ) (job : JobView) (s : SproutsView) → s.job ≡ job → IsHolding p l h job → EndsSearch h new 1 r s → HasSearched l new
-ended-job p l h new r job s is held g = ended p l h new r s (subst (IsHolding p l h) (sym is) held) g
+  pub stale-next : IsStale old.limits old.history new.history 1 r sprouted.id → GoesOn p old.limits job.id old.history new.history
+  stale-next g = goes-stale p old.limits old.history new.history r job held run-next (subst (λ j. IsStale old.limits old.history new.history 1 r j.id) is g)
+
+  pub ended-next : EndsSearch old.history new.history 1 r sprouted.id → HasSearched old.limits new.history
+  ended-next g = ended p old.limits old.history new.history r job held run-next (subst (λ j. EndsSearch old.history new.history 1 r j.id) is g)

@@ -1,3 +1,4 @@
+pub mod Outlooks
 pub mod Sprouting
 pub mod Endings
 pub mod OneWorker

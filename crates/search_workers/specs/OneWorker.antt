@@ -1,16 +1,17 @@
 -- A search by one worker, actor 1: it takes a node and merges it, again and again.
 use Rattle.std.specs.Prelude.{◌≡◌, ◌⊎◌, ◌<◌, ℕ, suc, ◌+◌, ◌-◌, max, Bool, true, false, ◌||◌, ◌==◌, List, length, Some, None, IsTrue}
-use Rattle.std.specs.List.{list_all, list_any}
+use Rattle.std.specs.List.{list_all}
 use Rattle.tp_spec.specs.declared.event.Event.{Event}
 use Rattle.tp_spec.specs.declared.plan.Limits.{Limits}
 use Rattle.tp_spec.specs.declared.problem.Problem.{Problem}
 use Rattle.tp_spec.specs.Following.{IsBusy, last_take}
-use Rattle.tp_spec.specs.Machine.{Machine, Node, IsWholeRun, is_open, state_of}
+use Rattle.tp_spec.specs.Machine.{Machine, Node, IsWholeRun, is_open, state_of, without}
 use Rattle.tp_spec.specs.Schedules.{Live}
 use Rattle.tp_spec.specs.WellFormed.{IsWellFormed}
+use Rattle.tp_laws.specs.Clocks.{IsDeadline}
+use Rattle.machine_run.specs.Turns.{has_outcome}
 use Rattle.open_tree.specs.Charter.{SameCharter}
 use Rattle.open_tree.specs.Jobs.{IsJobOf}
-use Rattle.open_tree.specs.Turns.{has_outcome}
 use Rattle.open_tree.specs.Views.{JobView, TreeView}
 use Rattle.word_network.specs.Conditions.{AreLimits}
 use Rattle.search_workers.specs.Endings.{HasResult, IsHalted}
@@ -24,7 +25,7 @@ pub record IsRested (l : Limits) (history : List Event) : Type 0 where
   pub free : last_take 1 history ≡ None
   pub all_open : IsTrue (list_all is_open (state_of l history).nodes)
 
--- between a take and its merge: one node is taken
+-- between a take and its merge: no other node is taken
 pub record HasTaken (l : Limits) (history : List Event) (id : ℕ) : Type 0 where
   pub busy : IsBusy l 1 history
   pub took : last_take 1 history ≡ Some id
@@ -33,6 +34,10 @@ pub record HasTaken (l : Limits) (history : List Event) (id : ℕ) : Type 0 wher
 -- how many nodes more could be expanded at most
 abbrev pub left_of : Limits → Machine → ℕ
 left_of l m = (suc (max 1 l.nodes) + length m.nodes) - m.made
+
+-- the same where the node of an id is held: it counts whether it stands or was dropped
+abbrev pub left_beside : ℕ → Limits → Machine → ℕ
+left_beside id l m = (suc (max 1 l.nodes) + suc (length (without id m.nodes))) - m.made
 
 -- the problem is well formed, and the limits are in range
 pub record IsBounded (p : Problem) (l : Limits) : Type 0 where
@@ -46,17 +51,17 @@ pub record IsSearching (p : Problem) (l : Limits) (history : List Event) : Type 
   pub whole : IsWholeRun p l history
   pub standing : has_outcome history ≡ false
 
--- the search goes on, and the node of this job is taken
+-- the search goes on, and the node of this job is taken, or was and is dropped
 pub record IsHolding (p : Problem) (l : Limits) (history : List Event) (j : JobView) : Type 0 where
   pub bounded : IsBounded p l
   pub taken : HasTaken l history j.id
-  pub there : IsTrue (list_any (λ n. n.id == j.id) (state_of l history).nodes)
   pub whole : IsWholeRun p l history
   pub standing : has_outcome history ≡ false
   pub job : IsJobOf l history 1 j
   pub problem : j.problem ≡ p
   pub limits : j.limits ≡ l
   pub live : Live p l j.clock j.commits j.node.word
+  pub timely : IsDeadline p l j.commits j.node.word j.node.deadline
 
 -- the search goes on in a tree of this problem that began as another one
 pub record IsGoing {C : Type 0} (p : Problem) (began now : TreeView C) : Type 0 where
@@ -64,10 +69,10 @@ pub record IsGoing {C : Type 0} (p : Problem) (began now : TreeView C) : Type 0 
   pub problem : now.problem ≡ p
   pub searching : IsSearching p now.limits now.history
 
--- from one merge to the next
-pub record GoesOn (p : Problem) (l : Limits) (old new : List Event) : Type 0 where
+-- from a take of this id to the next
+pub record GoesOn (p : Problem) (l : Limits) (id : ℕ) (old new : List Event) : Type 0 where
   pub searching : IsSearching p l new
-  pub less : left_of l (state_of l new) < left_of l (state_of l old)
+  pub less : left_of l (state_of l new) < left_beside id l (state_of l old)
 
 -- an outcome stands: the run was halted, or the history ends with a result and is busy
 pub record HasSearched (l : Limits) (history : List Event) : Type 0 where

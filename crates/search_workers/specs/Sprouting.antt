@@ -1,33 +1,28 @@
 -- What a worker may be asked to sprout, and what it keeps of the marks that may follow a word.
-use Rattle.std.specs.Prelude.{◌≡◌, ◌⊎◌, ℕ, ◌+◌, ◌<◌, ◌≤◌, ◌^◌, List, [], ◌∷◌, ◌++◌, length, map}
+use Rattle.std.specs.Prelude.{◌≡◌, ◌⊎◌, ◌+◌, ◌<◌, ◌≤◌, ◌^◌, List, [], ◌∷◌, ◌++◌, length, All}
 use Rattle.tp_spec.specs.declared.plan.Mark.{Mark}
 use Rattle.tp_spec.specs.declared.problem.Problem.{Problem}
 use Rattle.tp_spec.specs.Schedules.{Live}
 use Rattle.tp_spec.specs.WellFormed.{IsWellFormed}
-use Rattle.tp_spec.specs.Words.{groups}
-use Rattle.node_state.specs.Growths.{rank_with}
+use Rattle.tp_spec.specs.Words.{Sound}
+use Rattle.tp_laws.specs.Clocks.{IsDeadline}
+use Rattle.machine_run.specs.Children.{IsChild, marks_of}
 use Rattle.open_tree.specs.Views.{JobView}
+use Rattle.word_frontier.specs.declared.child.Child.{Child}
 use Rattle.word_network.specs.Conditions.{AreLimits, AreCommits}
-use Rattle.search_workers.specs.declared.worker.Kept.{Kept}
 
--- A job of this well-formed problem, whose limits, commitments and clock are in range, and whose
--- word is live under its view and not too long.
+-- A job of this well-formed problem, whose limits and commitments are in range and whose clock is
+-- at most one tick past the horizon. Its word is sound and not too long, and its deadline is the
+-- word's.
 pub record CanSprout (p : Problem) (j : JobView) : Type 0 where
   pub formed : IsWellFormed p
   pub problem : j.problem ≡ p
   pub limited : AreLimits j.limits
   pub commits : AreCommits p j.commits
-  pub clock : j.clock ≤ 2 ^ 40 + 1
-  pub live : Live p j.limits j.clock j.commits j.node.word
+  pub clock : j.clock ≤ j.limits.horizon + 1
+  pub sound : Sound p j.node.word
+  pub timely : IsDeadline p j.limits j.commits j.node.word j.node.deadline
   pub short : length j.node.word + 1 < 2 ^ 31
-
--- marks and their ranks
-pub record KeptView : Type 0 where
-  pub marks : List Mark
-  pub ranks : List ℕ
-
-abbrev pub kept_of : Kept → KeptView
-kept_of k = record { marks = k.marks; ranks = k.ranks }
 
 -- the members of a list that have a property, in order
 abbrev pub AreThose : {A : Type 0} → (A → Type 0) → List A → List A → Type 0
@@ -40,14 +35,9 @@ AreThose P (x ∷ xs) (y ∷ ys) =
 abbrev pub IsLiveMark : Problem → JobView → Mark → Type 0
 IsLiveMark p j a = Live p j.limits j.clock j.commits (j.node.word ++ a ∷ [])
 
--- exactly those of some marks that make a job's word a live word, and the ranks of these words
-pub record AreKept (p : Problem) (j : JobView) (marks : List Mark) (k : KeptView) : Type 0 where
-  pub those : AreThose (IsLiveMark p j) marks k.marks
-  pub ranked : k.ranks ≡ map (rank_with p j.node.word) k.marks
-
--- the clock stands at 0 and nothing is committed; a start and a group more are within the limits
-pub record HasRest (j : JobView) : Type 0 where
-  pub still : j.clock ≡ 0
-  pub free : j.commits ≡ []
-  pub starts : length j.node.word < j.limits.actions
-  pub opened : groups j.node.word ≤ j.limits.horizon
+-- children with exactly those of some marks that make a job's word a live word, and with the ranks
+-- and the deadlines of these words
+pub record AreKept (p : Problem) (j : JobView) (marks : List Mark) (children : List Child) :
+    Type 0 where
+  pub those : AreThose (IsLiveMark p j) marks (marks_of children)
+  pub each : All (IsChild p j.limits j.commits j.node.word) children

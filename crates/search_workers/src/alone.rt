@@ -9,7 +9,8 @@ use tp_spec::{Cause, NoMemory, Problem};
 use tp_world::Clock;
 
 /// One worker, actor 1, takes a node, sprouts it and merges the sprouts, again and again, until an
-/// outcome stands. Where memory is refused the run is halted.
+/// outcome stands. A node that left the frontier between the two is passed over. Where memory is
+/// refused the run is halted.
 pub fn search<'p, C: Clock>(alloc: Global, problem: &'p Problem, tree: &mut Tree<'p, C>)
     requires problem { tree.old.problem ≡ problem.now }
     requires searching { IsSearching problem.now tree.old.limits tree.old.history }
@@ -28,7 +29,7 @@ pub fn search<'p, C: Clock>(alloc: Global, problem: &'p Problem, tree: &mut Tree
                 }
             }
             Ok(Taken::Nothing) => unreachable!(),
-            Ok(Taken::Over) => unreachable!(),
+            Ok(Taken::Over) => return,
             Err(NoMemory) => return,
         }
     }
@@ -41,7 +42,7 @@ fn grow<'p, C: Clock>(worker: &mut Worker<'p>, tree: &mut Tree<'p, C>, job: Job<
     ensures worker { worker.new ≡ worker.old }
     ensures charter { SameCharter tree.old tree.new }
     ensures on { result ≡ true
-        → GoesOn worker.old tree.old.limits tree.old.history tree.new.history }
+        → GoesOn worker.old tree.old.limits job.entry.id tree.old.history tree.new.history }
     ensures off { result ≡ false → HasSearched tree.old.limits tree.new.history }
 {
     let Ok(sprouts) = worker.sprout(job) else {
@@ -50,7 +51,7 @@ fn grow<'p, C: Clock>(worker: &mut Worker<'p>, tree: &mut Tree<'p, C>, job: Job<
     };
     match tree.merge(1, sprouts) {
         Ok(Merged::Done) => true,
-        Ok(Merged::Stale) => unreachable!(),
+        Ok(Merged::Stale) => true,
         Ok(Merged::Over) => false,
         Err(_) => false,
     }

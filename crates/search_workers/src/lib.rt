@@ -1,7 +1,8 @@
-//! The search by workers: what one makes of a job, and the loop of one worker alone.
 #![tactic(auto)]
 
 mod alone;
+mod children;
+mod outlook;
 mod worker;
 
 pub use alone::search;

@@ -1,7 +1,0 @@
-use Rattle.std.proofs.Common.{◌∙◌, ap, length, arith, []}
-use Rattle.tp_spec.specs.declared.problem.Problem.{Problem}
-use Rattle.open_tree.proofs.Ranks.{rank-few}
-use Rattle.open_tree.proofs.tree.root_of.Goals as goal
-
-pub root-requires : goal.root-requires
-root-requires c = omega (arith, c.in_ok-rank.ensures, rank-few c.args.problem.now [], ap length (c.as_slice.ensures ∙ ap (λ (q : Problem). q.goal) c.problem.view_is))
