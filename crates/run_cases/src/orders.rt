@@ -5,19 +5,24 @@ use std::alloc::Global;
 use std::io;
 use tp_spec::Limits;
 
-/// The limits that the words of a line order, or the first fault of the words.
-fn limits_of(alloc: Global, words: &[String]) -> Result<Limits, WordFault> {
+/// The limits that the words of a line order, none where they order `help`; or the first fault of
+/// the words.
+fn limits_of(alloc: Global, words: &[String]) -> Result<Option<Limits>, WordFault> {
     if words.len() > MOST_WORDS {
         return Err(WordFault::NoMemory);
     }
     match read_words(alloc, words) {
-        Ok(Order::Solve { limits, .. } | Order::Validate { limits, .. }) => Ok(limits),
+        Ok(Order::Solve { limits, .. } | Order::Validate { limits, .. }) => Ok(Some(limits)),
+        Ok(Order::Help) => Ok(None),
         Err(fault) => Err(fault),
     }
 }
 
 /// The limits of an order in a line.
-fn limits_line(alloc: Global, limits: Limits) -> io::Result<String> {
+fn limits_line(alloc: Global, limits: Option<Limits>) -> io::Result<String> {
+    let Some(limits) = limits else {
+        return Ok(String::from_str(alloc, "ok")?);
+    };
     let text = format!(in alloc; "ok {} {} {}", limits.actions, limits.horizon, limits.nodes)?;
     Ok(text)
 }

@@ -7,3 +7,4 @@ pub mod Numerals
 pub mod Dashes
 pub mod FirstFaults
 pub mod Ranges
+pub mod HelpText

@@ -10,28 +10,22 @@ use Rattle.tp_world.specs.Views.{Outside, ClockView}
 use Rattle.tp_spec.specs.declared.fault.LineFault.{LineFault}
 use Rattle.tp_spec.specs.declared.fault.LineFault.TheVariants as line_faults
 use Rattle.run_cli.specs.Orders.{Answers, fault_text, is_memory}
-use Rattle.run_cli.specs.Untimed.{IsFaultyText, TellsWhy}
+use Rattle.run_cli.specs.Grounds.{IsFaultyText}
 use Rattle.run_cli.specs.Printing.{Prints, PrintsNothing}
-use Rattle.run_cli.specs.Solving.{IsUnsearched, IsUntimedStop, EndsBefore}
+use Rattle.run_cli.specs.Solving.{IsUnsearched, IsSolveStop, EndsBefore}
 use Rattle.run_cli.specs.Statuses.{EndsLocal, EndsRun, EndsValidate}
 use Rattle.run_cli.specs.Runs.{EndingView, IsIdle}
-use Rattle.run_cli.specs.Stopping.{IsStop, untimed_line, ground_file, ground_and_plan}
+use Rattle.run_cli.specs.Stopping.{IsStop, ground_file, ground_and_plan}
 use Rattle.run_cli.specs.Validating.{RefusesGround, IsAnswer}
 use Rattle.run_cli.specs.VerdictTexts.{ground_line}
 use Rattle.run_cli.specs.declared.loading.Stop.{Stop}
 use Rattle.run_cli.specs.declared.loading.Stop.TheVariants.{Said, NoMemory}
-use Rattle.run_cli.specs.declared.reader.UntimedFault.{UntimedFault}
-use Rattle.run_cli.specs.declared.reader.UntimedFault.TheVariants.{NotBuilt, Refused}
 use Rattle.run_cli.specs.declared.words.Order.{Order}
-use Rattle.run_cli.specs.declared.words.Order.TheVariants.{Solve, Validate}
+use Rattle.run_cli.specs.declared.words.Order.TheVariants.{Solve, Validate, Help}
 use Rattle.run_cli.specs.declared.words.WordFault.{WordFault}
 use Rattle.run_cli.specs.declared.words.WordFault.TheVariants as faults
 use Rattle.std.proofs.Common.{Result, Ok, Err}
 use Rattle.run_cli.proofs.FirstLoads.{all-asked, none-asked, stopped-front}
-
-abbrev line_or : List ℕ → Option (List ℕ) → List ℕ
-line_or other None = other
-line_or other (Some line) = line
 
 abbrev is_there : Option (List ℕ) → Bool
 is_there None = false
@@ -50,23 +44,20 @@ refuses_ground text line (line_faults.Line number) why says = record {
 }
 refuses_ground text line line_faults.NoMemory why says = absurd (false≢true (ap is_there says))
 
--- a file is loaded, its text gives no problem without timed items, and the line says so
-pub unsearched-of : (file : Wanted) (text line : List ℕ) (fault : UntimedFault) (before after : FilesView) (status : ℕ) → AreLoaded (file ∷ []) (text ∷ []) before after
-    → TellsWhy text fault → status ≡ 4 → untimed_line fault ≡ Some line → IsUnsearched file before after status line
-unsearched-of file text line NotBuilt before after status loaded why is says =
-    inr (inl (record { text = text; loaded = loaded; unbuilt = why; status_is = is; line_is = ap (line_or []) (sym says) }))
-unsearched-of file text line (Refused fault) before after status loaded why is says =
-    inr (inr (record { text = text; loaded = loaded; refuses = refuses_ground text line fault why says; status_is = is }))
+-- a file is loaded, its text is no problem's, and the line says so
+pub unsearched-of : (file : Wanted) (text line : List ℕ) (fault : LineFault) (before after : FilesView) (status : ℕ) → AreLoaded (file ∷ []) (text ∷ []) before after
+    → IsFaultyText text fault → status ≡ 4 → ground_line fault ≡ Some line → IsUnsearched file before after status line
+unsearched-of file text line fault before after status loaded why is says =
+    inr (record { text = text; loaded = loaded; refuses = refuses_ground text line fault why says; status_is = is })
 
 -- the file is not loaded
-pub untimed-stop : (file : Wanted) (before after : FilesView) (s : Stop) → IsStop (file ∷ []) before after s → IsUntimedStop file before after s
-untimed-stop file before after (Said answer) why = inl why
-untimed-stop file before after NoMemory why = why
+pub solve-stop : (file : Wanted) (before after : FilesView) (s : Stop) → IsStop (file ∷ []) before after s → IsSolveStop file before after s
+solve-stop file before after (Said answer) why = inl why
+solve-stop file before after NoMemory why = why
 
 unsearched-front : (file : Wanted) (before after : FilesView) (status : ℕ) (line : List ℕ) → IsUnsearched file before after status line → AsksFront (file ∷ []) before after
 unsearched-front file before after status line (inl w) = stopped-front w
-unsearched-front file before after status line (inr (inl w)) = all-asked w.loaded.asked
-unsearched-front file before after status line (inr (inr w)) = all-asked w.loaded.asked
+unsearched-front file before after status line (inr w) = all-asked w.loaded.asked
 
 -- the line that says why is put
 pub says-why : (file : Wanted) (before after : Outside) (wanted : ℕ) (line : List ℕ) (status : ℕ) → IsUnsearched file before.files after.files wanted line
@@ -98,12 +89,14 @@ memory-local : (wanted : Result Order WordFault) (before after : Outside) (statu
 memory-local (Err fault) before after status unasked nothing = record { unasked = unasked; ends = inr nothing }
 memory-local (Ok (Solve ground_name limits)) before after status unasked nothing = inr (inr (record { asked = none-asked (ground_file ground_name ∷ []) unasked; printed = nothing }))
 memory-local (Ok (Validate ground_name plan_name limits)) before after status unasked nothing = inr (record { asked = none-asked (ground_and_plan ground_name plan_name) unasked; printed = nothing })
+memory-local (Ok Help) before after status unasked nothing = record { unasked = unasked; ends = inr nothing }
 
 memory-run : (wanted : Result Order WordFault) (before after : Outside) (ending : EndingView) → after.files ≡ before.files → PrintsNothing before.sink after.sink ending.status → IsIdle ending
     → EndsRun wanted before after ending
 memory-run (Err fault) before after ending unasked nothing idle = (record { unasked = unasked; ends = inr nothing }, idle)
 memory-run (Ok (Solve ground_name limits)) before after ending unasked nothing idle = inr (inr (record { asked = none-asked (ground_file ground_name ∷ []) unasked; printed = nothing }), idle)
 memory-run (Ok (Validate ground_name plan_name limits)) before after ending unasked nothing idle = (inr (record { asked = none-asked (ground_and_plan ground_name plan_name) unasked; printed = nothing }), idle)
+memory-run (Ok Help) before after ending unasked nothing idle = (record { unasked = unasked; ends = inr nothing }, idle)
 
 refused-words : (fault : WordFault) (wanted : Result Order WordFault) → Answers (Err fault) wanted → is_memory fault ≡ false → wanted ≡ Err fault
 refused-words (faults.NoCommand at) wanted answers known = answers

@@ -2,7 +2,8 @@ pub mod Arguments
 pub mod Options
 pub mod Orders
 pub mod Outcomes
-pub mod Untimed
+pub mod Grounds
+pub mod Help
 pub mod Printing
 pub mod Runs
 pub mod Solving

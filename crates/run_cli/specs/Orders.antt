@@ -1,5 +1,5 @@
 -- What a command line orders, or its first fault.
-use Rattle.std.specs.Prelude.{◌≡◌, ℕ, ◌+◌, ◌^◌, Bool, true, false, nat_eq, if◌then◌else◌, List, [], ◌∷◌, ◌++◌, length, bytes_eq, codes, decimal, is_some, unwrap_or, Option, Some, None, Result, Ok, Err}
+use Rattle.std.specs.Prelude.{◌≡◌, ℕ, ◌+◌, Bool, true, false, if◌then◌else◌, List, [], ◌∷◌, ◌++◌, length, bytes_eq, codes, decimal, is_some, unwrap_or, Option, Some, None, Result, Ok, Err}
 use Rattle.std.specs.List.{list_any}
 use Rattle.tp_spec.specs.declared.plan.Limits.{Limits}
 use Rattle.run_cli.specs.declared.options.Command.{Command}
@@ -7,10 +7,11 @@ use Rattle.run_cli.specs.declared.options.Command.TheVariants as commands
 use Rattle.run_cli.specs.declared.options.Setting.{Setting}
 use Rattle.run_cli.specs.declared.options.Setting.TheVariants.{Actions, Horizon, Nodes, PlanFile}
 use Rattle.run_cli.specs.declared.words.Order.{Order}
-use Rattle.run_cli.specs.declared.words.Order.TheVariants.{Solve, Validate}
+use Rattle.run_cli.specs.declared.words.Order.TheVariants.{Solve, Validate, Help}
 use Rattle.run_cli.specs.declared.words.WordFault.{WordFault}
 use Rattle.run_cli.specs.declared.words.WordFault.TheVariants.{NoCommand, UnknownCommand, UnknownOption, Twice, NoValue, BadNumber, FileCount, ScaleOfGround, Missing, NoMemory}
-use Rattle.run_cli.specs.Options.{command_named, name_of, options_of, number_in, range_of}
+use Rattle.run_cli.specs.declared.options.Numbers.{Numbers}
+use Rattle.run_cli.specs.Options.{command_named, name_of, numbers_of, options_of, number_in, takes}
 use Rattle.run_cli.specs.Arguments.{Argument, File, Given, Bare, Strange, arguments_of}
 
 -- whether an argument gives an option of this option's name
@@ -27,16 +28,16 @@ is_given arguments s = list_any (gives s) arguments
 abbrev pub twice_faults : List Argument → ℕ → Setting → List WordFault
 twice_faults before at s = if is_given before s then Twice at ∷ [] else []
 
-abbrev pub range_faults : ℕ → Option (ℕ × ℕ) → List ℕ → List WordFault
+abbrev pub range_faults : ℕ → Option Numbers → List ℕ → List WordFault
 range_faults at None value = []
-range_faults at (Some (low, high)) value =
-    if is_some (number_in low high value) then [] else BadNumber at ∷ []
+range_faults at (Some n) value =
+    if is_some (number_in n.least n.most value) then [] else BadNumber at ∷ []
 
 -- the faults of an argument behind other arguments: at one word in this order
 abbrev pub argument_faults : List Argument → Argument → List WordFault
 argument_faults before (File name) = []
 argument_faults before (Given at s value_at value) =
-    twice_faults before at s ++ range_faults value_at (range_of s) value
+    twice_faults before at s ++ range_faults value_at (numbers_of s) value
 argument_faults before (Bare at s) = twice_faults before at s ++ NoValue at ∷ []
 argument_faults before (Strange at) = UnknownOption at ∷ []
 
@@ -62,10 +63,6 @@ abbrev pub first_name : List (List ℕ) → Option (List ℕ)
 first_name [] = None
 first_name (name ∷ rest) = Some name
 
--- the name of the file, where there is one file
-abbrev pub only_file : List (List ℕ) → Option (List ℕ)
-only_file files = if nat_eq (length files) 1 then first_name files else None
-
 abbrev pub value_in : Setting → Argument → Option (List ℕ)
 value_in s (File name) = None
 value_in s (Given at t value_at value) =
@@ -82,34 +79,54 @@ abbrev pub value_of : List Argument → Setting → Option (List ℕ)
 value_of [] s = None
 value_of (argument ∷ rest) s = or_else (value_in s argument) (value_of rest s)
 
-abbrev pub number_or : ℕ → ℕ → ℕ → Option (List ℕ) → ℕ
-number_or low high default None = default
-number_or low high default (Some value) = unwrap_or (number_in low high value) default
+-- a value as a number in range; the default where it is none, or is not there
+abbrev pub number_or : Numbers → Option (List ℕ) → ℕ
+number_or n None = n.default
+number_or n (Some value) = unwrap_or (number_in n.least n.most value) n.default
 
--- the limits that options give, with 64 acts, 2^40 ticks, no lead and 50,000 ids where they give
--- none
+abbrev pub number_from : Option Numbers → Option (List ℕ) → ℕ
+number_from None value = 0
+number_from (Some n) value = number_or n value
+
+-- the number of an option: the one that is given, or its default; 0 for an option without numbers
+abbrev pub number_of : List Argument → Setting → ℕ
+number_of arguments s = number_from (numbers_of s) (value_of arguments s)
+
+-- the greatest number of an option
+abbrev pub most_from : Option Numbers → ℕ
+most_from None = 0
+most_from (Some n) = n.most
+
+abbrev pub most_of : Setting → ℕ
+most_of s = most_from (numbers_of s)
+
+-- the limits that options give, with no lead
 abbrev pub limits_of : List Argument → Limits
 limits_of arguments = record {
-  actions = number_or 1 64 64 (value_of arguments Actions);
-  horizon = number_or 1 (2 ^ 40) (2 ^ 40) (value_of arguments Horizon);
+  actions = number_of arguments Actions;
+  horizon = number_of arguments Horizon;
   lead = 0;
-  nodes = number_or 1 200000 50000 (value_of arguments Nodes);
+  nodes = number_of arguments Nodes;
 }
 
--- The order of a command with its one file, with the plan file that `validate` needs, and with its
--- limits; else what is wrong with all `count` words.
+-- The order of a command with its first file, with the plan file that `validate` needs, and with
+-- its limits; else what is wrong with all `count` words.
 abbrev pub order_from : Command → ℕ → Option (List ℕ) → Option (List ℕ) → Limits
     → Result Order WordFault
-order_from command count None plan limits = Err (FileCount count)
+order_from commands.Help count file plan limits = Ok Help
+order_from commands.Solve count None plan limits = Err (FileCount count)
 order_from commands.Solve count (Some file) plan limits = Ok (Solve file limits)
+order_from commands.Validate count None plan limits = Err (FileCount count)
 order_from commands.Validate count (Some file) None limits = Err (Missing count)
 order_from commands.Validate count (Some file) (Some plan) limits = Ok (Validate file plan limits)
 
--- the same of all arguments
+-- the order of all arguments, where the command takes so many files
 abbrev pub whole_order : Command → ℕ → List Argument → Result Order WordFault
 whole_order command count arguments =
-    order_from command count (only_file (files_of arguments)) (value_of arguments PlanFile)
+    if takes command (length (files_of arguments))
+    then order_from command count (first_name (files_of arguments)) (value_of arguments PlanFile)
     (limits_of arguments)
+    else Err (FileCount count)
 
 -- the faults of single words come first
 abbrev pub judged : Result Order WordFault → List WordFault → Result Order WordFault
@@ -145,6 +162,7 @@ is_memory _ = false
 abbrev pub is_solve : Result Order WordFault → Bool
 is_solve (Ok (Solve file limits)) = true
 is_solve (Ok (Validate file plan limits)) = false
+is_solve (Ok Help) = false
 is_solve (Err fault) = false
 
 -- the first of some faults

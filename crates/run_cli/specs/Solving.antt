@@ -1,5 +1,5 @@
 -- What `solve` gives of a file: how its search ends, or why nothing is searched.
-use Rattle.std.specs.Prelude.{◌≡◌, ◌⊎◌, ◌<◌, ℕ, List, [], ◌∷◌, codes}
+use Rattle.std.specs.Prelude.{◌≡◌, ◌⊎◌, ◌<◌, ℕ, List, [], ◌∷◌}
 use Rattle.tp_spec.specs.declared.plan.Limits.{Limits}
 use Rattle.tp_spec.specs.declared.problem.Problem.{Problem}
 use Rattle.tp_spec.specs.Following.{IsBusy}
@@ -10,7 +10,7 @@ use Rattle.tp_world.specs.Loads.{Wanted, AreLoaded, AsksFront}
 use Rattle.tp_world.specs.Sinks.{SinkView}
 use Rattle.tp_world.specs.Views.{Outside}
 use Rattle.run_cli.specs.Outcomes.{EndsAs, HasStopped}
-use Rattle.run_cli.specs.Untimed.{IsUntimedText, IsUnbuiltText}
+use Rattle.run_cli.specs.Grounds.{IsTextOf}
 use Rattle.run_cli.specs.Printing.{Prints, PrintsNothing}
 use Rattle.run_cli.specs.Runs.{EndingView, HasReadings, IsBegun, IsIdle}
 use Rattle.run_cli.specs.Stopping.{IsStopped}
@@ -18,11 +18,11 @@ use Rattle.run_cli.specs.Validating.{RefusesGround}
 use Rattle.run_cli.specs.declared.loading.Stop.{Stop}
 use Rattle.run_cli.specs.declared.loading.Stop.TheVariants.{Said, NoMemory}
 
--- a file is loaded, and it is the text of a problem without timed items
-pub record HoldsUntimed (file : Wanted) (p : Problem) (before after : FilesView) : Type 0 where
+-- a file is loaded, and it is the text of a problem
+pub record HoldsProblem (file : Wanted) (p : Problem) (before after : FilesView) : Type 0 where
   pub text : List ℕ
   pub loaded : AreLoaded (file ∷ []) (text ∷ []) before after
-  pub read : IsUntimedText text p
+  pub read : IsTextOf text p
 
 -- A search of a problem that ends with the result of this status, 0, 1 or 2: its history is a whole
 -- run, busy for the one worker, and ends with that result; the clock was begun with its scale.
@@ -56,21 +56,12 @@ abbrev pub EndsSearch : Problem → Limits → SinkView → SinkView → EndingV
 EndsSearch p l before after ending =
     Solves p l before after ending ⊎ IsHalfSolved p l before after ending
 
--- the file is the text of a problem without timed items, which is searched
+-- the file is the text of a problem, which is searched
 pub record IsSearched (file : Wanted) (l : Limits) (before after : Outside) (ending : EndingView) :
     Type 0 where
   pub problem : Problem
-  pub holds : HoldsUntimed file problem before.files after.files
+  pub holds : HoldsProblem file problem before.files after.files
   pub ends : EndsSearch problem l before.sink after.sink ending
-
--- the file is the text of a problem with a timed item
-pub record IsNotBuilt (file : Wanted) (before after : FilesView) (status : ℕ) (line : List ℕ) :
-    Type 0 where
-  pub text : List ℕ
-  pub loaded : AreLoaded (file ∷ []) (text ∷ []) before after
-  pub unbuilt : IsUnbuiltText text
-  pub status_is : status ≡ 4
-  pub line_is : line ≡ codes "refused ground 0 NotBuilt\n"
 
 -- the file is no problem's text
 pub record IsNoText (file : Wanted) (before after : FilesView) (status : ℕ) (line : List ℕ) :
@@ -83,14 +74,13 @@ pub record IsNoText (file : Wanted) (before after : FilesView) (status : ℕ) (l
 -- why nothing is searched in a file, with the status and the line of it
 abbrev pub IsUnsearched : Wanted → FilesView → FilesView → ℕ → List ℕ → Type 0
 IsUnsearched file before after status line =
-    IsStopped (file ∷ []) before after status line
-    ⊎ (IsNotBuilt file before after status line ⊎ IsNoText file before after status line)
+    IsStopped (file ∷ []) before after status line ⊎ IsNoText file before after status line
 
 -- why nothing is searched; where memory was refused, a front of the file's loads was asked for
-abbrev pub IsUntimedStop : Wanted → FilesView → FilesView → Stop → Type 0
-IsUntimedStop file before after (Said answer) =
+abbrev pub IsSolveStop : Wanted → FilesView → FilesView → Stop → Type 0
+IsSolveStop file before after (Said answer) =
     IsUnsearched file before after answer.status answer.line.items
-IsUntimedStop file before after NoMemory = AsksFront (file ∷ []) before after
+IsSolveStop file before after NoMemory = AsksFront (file ∷ []) before after
 
 -- nothing is searched, and the line that says why is put
 pub record SaysWhy (file : Wanted) (before after : Outside) (status : ℕ) : Type 0 where
@@ -116,10 +106,10 @@ EndsSolve file l before after ending =
     IsSearched file l before after ending
     ⊎ (EndsBefore file before after ending.status × IsIdle ending)
 
--- the file is the text of a problem without timed items, and nothing is put: 3
+-- the file is the text of a problem, and nothing is put: 3
 pub record IsLeft (file : Wanted) (before after : Outside) (status : ℕ) : Type 0 where
   pub problem : Problem
-  pub holds : HoldsUntimed file problem before.files after.files
+  pub holds : HoldsProblem file problem before.files after.files
   pub status_is : status ≡ 3
   pub unput : after.sink ≡ before.sink
 

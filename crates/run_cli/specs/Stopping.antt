@@ -1,14 +1,11 @@
 -- The files of a command, and why it ends before its work.
-use Rattle.std.specs.Prelude.{◌≡◌, ◌⊎◌, ℕ, List, [], ◌∷◌, ◌++◌, Option, Some, codes, decimal}
+use Rattle.std.specs.Prelude.{◌≡◌, ◌⊎◌, ℕ, List, [], ◌∷◌, ◌++◌, codes, decimal}
 use Rattle.tp_world.specs.Contents.{FilesView}
 use Rattle.tp_world.specs.Loads.{Wanted, AsksFront, IsTooLongAt, FailsAt}
-use Rattle.run_cli.specs.VerdictTexts.{ground_line}
 use Rattle.run_cli.specs.declared.loading.Role.{Role}
 use Rattle.run_cli.specs.declared.loading.Role.TheVariants.{GroundText, PlanFile}
 use Rattle.run_cli.specs.declared.loading.Stop.{Stop}
 use Rattle.run_cli.specs.declared.loading.Stop.TheVariants.{Said, NoMemory}
-use Rattle.run_cli.specs.declared.reader.UntimedFault.{UntimedFault}
-use Rattle.run_cli.specs.declared.reader.UntimedFault.TheVariants.{NotBuilt, Refused}
 
 abbrev pub role_name : Role → List ℕ
 role_name GroundText = codes "ground"
@@ -60,8 +57,3 @@ abbrev pub IsStop : List Wanted → FilesView → FilesView → Stop → Type 0
 IsStop files before after (Said answer) =
     IsStopped files before after answer.status answer.line.items
 IsStop files before after NoMemory = AsksFront files before after
-
--- the line for a text that gives no problem without timed items; none where memory is refused
-abbrev pub untimed_line : UntimedFault → Option (List ℕ)
-untimed_line NotBuilt = Some (codes "refused ground 0 NotBuilt\n")
-untimed_line (Refused fault) = ground_line fault

@@ -1,22 +1,26 @@
 ghost use Rattle.std.specs.Prelude.{◌≡◌, ◌<◌, ◌^◌, ◌⊎◌, [], map, length, true, false, string_bytes};
 ghost use Rattle.run_cli.specs.Orders.{order_of, fault_text, is_solve, is_memory as is_memory_of};
+ghost use Rattle.run_cli.specs.Help.{help_text};
 ghost use Rattle.run_cli.specs.Printing.{Prints, PrintsNothing};
 ghost use Rattle.run_cli.specs.Statuses.{EndsLocal, EndsRun};
 
 use crate::answer::Answer;
 use crate::ending::{Ending, say, unsearched};
+use crate::help::help_text;
 use crate::solving::{leave_file, solve_file};
 use crate::validating::judge_files;
 use crate::words::{Order, WordFault, fault_line, read_words};
 use std::alloc::Global;
+use tp_spec::NoMemory;
 use tp_world::{Clock, Files, Gate, Sink};
 
 /// Does what the words say. `solve FILE` reads a ground text, searches with one worker, and prints
 /// a plan, `exhausted` or `limit`; `validate FILE --plan FILE` prints whether a plan is valid, and
-/// else the first of its parts that is broken. The status is 0 where a plan is published or valid,
-/// 1 where the search is exhausted or the plan is not valid, 2 at the limit of ids, 3 where the
-/// words are refused, 4 where a file is, 5 where one can't be loaded, 6 where the output fails, and
-/// 7 where memory is refused. Only `solve` begins and reads the clock and has a history.
+/// else the first of its parts that is broken; `help` prints a line for each command. The status is
+/// 0 where a plan is published or valid or the commands are told, 1 where the search is exhausted
+/// or the plan is not valid, 2 at the limit of ids, 3 where the words are refused, 4 where a file
+/// is, 5 where one can't be loaded, 6 where the output fails, and 7 where memory is refused. Only
+/// `solve` begins and reads the clock and has a history.
 pub fn run<F: Files, O: Sink + Send, C: Clock + Send, G: Gate>(
     alloc: Global,
     words: &[String],
@@ -71,13 +75,14 @@ pub fn run<F: Files, O: Sink + Send, C: Clock + Send, G: Gate>(
             out,
             clock,
         ),
+        Ok(Order::Help) => print_help(alloc, out, clock),
         Err(fault) => refuse_words(alloc, fault, out, clock),
     }
 }
 
 /// Does what the words say as `run` does, but waits for nobody: every command but `solve`. `solve`
 /// reads its file as `run` does, with the same statuses and lines for a file that is refused or
-/// can't be loaded; where its problem has no timed items nothing is put, and the status is 3.
+/// can't be loaded; where it is a problem's text nothing is put, and the status is 3.
 pub fn run_local<F: Files, O: Sink, C: Clock>(
     alloc: Global,
     words: &[String],
@@ -111,7 +116,21 @@ pub fn run_local<F: Files, O: Sink, C: Clock>(
             out,
             clock,
         ),
+        Ok(Order::Help) => print_help(alloc, out, clock),
         Err(fault) => refuse_words(alloc, fault, out, clock),
+    }
+}
+
+/// Prints a line for each command and ends with status 0.
+fn print_help<O: Sink, C: Clock>(alloc: Global, out: &mut O, clock: C) -> Ending<C>
+    ensures history { result.history.items ≡ [] }
+    ensures clock { result.clock ≡ clock }
+    ensures prints { Prints help_text 0 (O.view out.old) (O.view out.new) result.status
+        ⊎ PrintsNothing (O.view out.old) (O.view out.new) result.status }
+{
+    match help_text(alloc) {
+        Ok(line) => say(alloc, out, Answer { status: 0, line }, clock),
+        Err(NoMemory) => unsearched(alloc, 7, clock),
     }
 }
 

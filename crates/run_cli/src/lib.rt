@@ -5,6 +5,7 @@ mod answer;
 mod arguments;
 mod command;
 mod ending;
+mod help;
 mod loading;
 mod options;
 mod printing;
@@ -16,4 +17,5 @@ mod words;
 
 pub use command::{run, run_local};
 pub use ending::Ending;
+pub use help::help_text;
 pub use words::{Order, WordFault, fault_line, read_words};

@@ -1,14 +1,15 @@
-ghost use Rattle.std.specs.Prelude.{◌≡◌, [], ◌∷◌, IfOk, IfErr, codes};
+ghost use Rattle.std.specs.Prelude.{◌≡◌, [], ◌∷◌, IfOk, IfErr, Some};
 ghost use Rattle.tp_world.specs.Loads.{AreLoaded};
-ghost use Rattle.run_cli.specs.Solving.{HoldsUntimed, IsUntimedStop};
-ghost use Rattle.run_cli.specs.Stopping.{IsStop, role_name, file_of, ground_file, ground_and_plan, failed_line, too_long_line, untimed_line};
+ghost use Rattle.run_cli.specs.Solving.{HoldsProblem, IsSolveStop};
+ghost use Rattle.run_cli.specs.Stopping.{IsStop, role_name, file_of, ground_file, ground_and_plan, failed_line, too_long_line};
+ghost use Rattle.run_cli.specs.VerdictTexts.{ground_line as ground_line_of};
 
 use crate::answer::Answer;
-use crate::reader::{UntimedFault, read_untimed};
+use crate::reader::read_ground;
 use crate::verdicts::ground_line;
 use line_text::{push_bytes, push_number};
 use std::alloc::Global;
-use tp_spec::{NoMemory, Problem};
+use tp_spec::{LineFault, NoMemory, Problem};
 use tp_world::{Files, LoadFault};
 
 /// The most bytes of a ground text, and of a plan file.
@@ -117,16 +118,16 @@ pub fn load_both<F: Files>(
     Ok((text, bytes))
 }
 
-/// Loads and reads a ground text; the problem without timed items that it is of.
-pub fn load_untimed<F: Files>(alloc: Global, name: &str, files: &mut F) -> Result<Problem, Stop>
-    ensures holds { IfOk result (λ p. HoldsUntimed (ground_file name.now) p (F.view files.old)
+/// Loads and reads a ground text; the problem that it is of.
+pub fn load_ground<F: Files>(alloc: Global, name: &str, files: &mut F) -> Result<Problem, Stop>
+    ensures holds { IfOk result (λ p. HoldsProblem (ground_file name.now) p (F.view files.old)
         (F.view files.new)) }
-    ensures stop { IfErr result (IsUntimedStop (ground_file name.now) (F.view files.old)
+    ensures stop { IfErr result (IsSolveStop (ground_file name.now) (F.view files.old)
         (F.view files.new)) }
     ensures contents { (F.view files.new).contents ≡ (F.view files.old).contents }
 {
     let text = load(alloc, Role::GroundText, name, files)?;
-    match read_untimed(alloc, &text) {
+    match read_ground(alloc, &text) {
         Ok(problem) => Ok(problem),
         Err(fault) => Err(Stop::Said {
             answer: refusal(alloc, fault)?,
@@ -134,21 +135,10 @@ pub fn load_untimed<F: Files>(alloc: Global, name: &str, files: &mut F) -> Resul
     }
 }
 
-/// What is said of a text that gives no problem without timed items.
-fn refusal(alloc: Global, fault: UntimedFault) -> Result<Answer, NoMemory>
-    ensures { IfOk result (λ a. (a.status ≡ 4) × (untimed_line fault ≡ Some a.line.items)) }
+/// What is said of a text that is no problem's.
+fn refusal(alloc: Global, fault: LineFault) -> Result<Answer, NoMemory>
+    ensures { IfOk result (λ a. (a.status ≡ 4) × (ground_line_of fault ≡ Some a.line.items)) }
 {
-    let line = match fault {
-        UntimedFault::NotBuilt => not_built_line(alloc)?,
-        UntimedFault::Refused { fault } => ground_line(alloc, fault)?,
-    };
+    let line = ground_line(alloc, fault)?;
     Ok(Answer { status: 4, line })
-}
-
-fn not_built_line(alloc: Global) -> Result<Vec<u8>, NoMemory>
-    ensures { IfOk result (λ t. t.items ≡ codes "refused ground 0 NotBuilt\n") }
-{
-    let mut text = Vec::new(alloc);
-    push_bytes(&mut text, b"refused ground 0 NotBuilt\n")?;
-    Ok(text)
 }

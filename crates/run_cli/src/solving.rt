@@ -7,7 +7,7 @@ ghost use Rattle.run_cli.specs.Solving.{EndsSearch, EndsSolve, EndsUnsolved};
 ghost use Rattle.run_cli.specs.Stopping.{ground_file};
 
 use crate::ending::{Ending, put, say, unsearched};
-use crate::loading::{Stop, load_untimed};
+use crate::loading::{Stop, load_ground};
 use crate::printing::result_text;
 use open_tree::Tree;
 use search_workers::search;
@@ -49,15 +49,14 @@ pub fn solve_file<F: Files, O: Sink, C: Clock>(
     ensures contents { (F.view files.new).contents ≡ (F.view files.old).contents }
     ensures same { 2 < result.status → result.status < 6 → result.clock ≡ clock }
 {
-    match load_untimed(alloc, name, files) {
+    match load_ground(alloc, name, files) {
         Ok(problem) => solve(alloc, &problem, limits, out, clock),
         Err(Stop::Said { answer }) => say(alloc, out, answer, clock),
         Err(Stop::NoMemory) => unsearched(alloc, 7, clock),
     }
 }
 
-/// Loads and reads a ground text, and searches nothing. Where its problem has no timed items,
-/// nothing is put.
+/// Loads and reads a ground text, and searches nothing. Where it is a problem's, nothing is put.
 pub fn leave_file<F: Files, O: Sink, C: Clock>(
     alloc: Global,
     name: &str,
@@ -73,7 +72,7 @@ pub fn leave_file<F: Files, O: Sink, C: Clock>(
     ensures history { result.history.items ≡ [] }
     ensures clock { result.clock ≡ clock }
 {
-    match load_untimed(alloc, name, files) {
+    match load_ground(alloc, name, files) {
         Ok(_) => unsearched(alloc, 3, clock),
         Err(Stop::Said { answer }) => say(alloc, out, answer, clock),
         Err(Stop::NoMemory) => unsearched(alloc, 7, clock),

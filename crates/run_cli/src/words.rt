@@ -1,12 +1,14 @@
 ghost use Rattle.std.specs.Prelude.{◌≡◌, ◌≤◌, ◌<◌, ◌^◌, ◌++◌, ◌∷◌, [], map, length, IfOk, MatchOption, string_bytes};
 ghost use Rattle.std.specs.Option.{option_map};
-ghost use Rattle.run_cli.specs.Options.{range_of};
+ghost use Rattle.run_cli.specs.Options.{numbers_of};
 ghost use Rattle.run_cli.specs.Arguments.{view_of};
 ghost use Rattle.run_cli.specs.declared.words.WordFault.TheVariants.{NoValue as no_value};
-ghost use Rattle.run_cli.specs.Orders.{gives, is_given, twice_faults, range_faults, argument_faults, faults_from, files_of, first_name, only_file, value_of, number_or, limits_of, order_from, ordered, order_of, Answers, first_of, named_fault, fault_text};
+ghost use Rattle.run_cli.specs.Orders.{gives, is_given, twice_faults, range_faults, argument_faults, faults_from, files_of, first_name, value_of, number_or, number_of, most_of, limits_of, order_from, whole_order, ordered, order_of, Answers, first_of, named_fault, fault_text};
 
 use crate::arguments::{Argument, arguments_of};
-use crate::options::{Command, Setting, command_named, name_of, number_in, range_of};
+use crate::options::{
+    Command, Numbers, Setting, command_named, name_of, number_in, numbers_of, takes,
+};
 use line_text::{push_bytes, push_number};
 use std::alloc::Global;
 use thiserror::Error;
@@ -27,6 +29,8 @@ pub enum Order {
         plan: Name,
         limits: Limits,
     },
+    /// To tell the commands.
+    Help,
 }
 
 /// The first fault of a command line. `at` is the index of a word, the command's being 0. The last
@@ -110,10 +114,10 @@ fn twice_fault(before: &[Argument<'_>], at: u32, setting: Setting) -> Option<Wor
 
 /// Whether a value is misspelt or out of the limits of its option.
 fn value_fault(at: u32, setting: Setting, value: &str) -> Option<WordFault>
-    ensures { result ≡ first_of (range_faults at (range_of setting) value.now) }
+    ensures { result ≡ first_of (range_faults at (numbers_of setting) value.now) }
 {
-    let (low, high) = range_of(setting)?;
-    match number_in(low, high, value) {
+    let numbers = numbers_of(setting)?;
+    match number_in(numbers.least, numbers.most, value) {
         Some(_) => None,
         None => Some(WordFault::BadNumber { at }),
     }
@@ -129,7 +133,7 @@ fn given_fault(
     value: &str,
 ) -> Option<WordFault>
     ensures { result ≡ first_of (twice_faults (map view_of before.now) at setting
-        ++ range_faults value_at (range_of setting) value.now) }
+        ++ range_faults value_at (numbers_of setting) value.now) }
 {
     match twice_fault(before, at, setting) {
         Some(fault) => Some(fault),
@@ -193,17 +197,6 @@ fn first_file<'a>(arguments: &[Argument<'a>]) -> Option<&'a str>
     None
 }
 
-/// The name of the file, where there is one file.
-fn only_file<'a>(arguments: &[Argument<'a>]) -> Option<&'a str>
-    ensures { option_map (λ t. t.now) result ≡ only_file (files_of (map view_of arguments.now)) }
-{
-    if file_count(arguments) == 1 {
-        first_file(arguments)
-    } else {
-        None
-    }
-}
-
 /// The value of an option.
 fn value_of<'a>(arguments: &[Argument<'a>], setting: Setting) -> Option<&'a str>
     ensures { option_map (λ t. t.now) result ≡ value_of (map view_of arguments.now) setting }
@@ -223,18 +216,29 @@ fn value_of<'a>(arguments: &[Argument<'a>], setting: Setting) -> Option<&'a str>
     None
 }
 
-/// A value as a number from `low` to `high`; where it is none, or is not there, the default.
-fn number_or(low: u64, high: u64, default: u64, value: Option<&str>) -> u64
-    requires { default ≤ high }
-    ensures number { result ≡ number_or low high default (option_map (λ t. t.now) value.entry) }
-    ensures most { result ≤ high }
+/// A value as a number in range; where it is none, or is not there, the default.
+fn number_or(numbers: Numbers, value: Option<&str>) -> u64
+    requires { numbers.default ≤ numbers.most }
+    ensures number { result ≡ number_or numbers (option_map (λ t. t.now) value.entry) }
+    ensures most { result ≤ numbers.most }
 {
     match value {
-        Some(text) => match number_in(low, high, text) {
+        Some(text) => match number_in(numbers.least, numbers.most, text) {
             Some(number) => number,
-            None => default,
+            None => numbers.default,
         },
-        None => default,
+        None => numbers.default,
+    }
+}
+
+/// The number of an option: the one that is given, or its default; 0 for an option without numbers.
+fn number_of(arguments: &[Argument<'_>], setting: Setting) -> u64
+    ensures number { result ≡ number_of (map view_of arguments.now) setting }
+    ensures most { result ≤ most_of setting }
+{
+    match numbers_of(setting) {
+        Some(numbers) => number_or(numbers, value_of(arguments, setting)),
+        None => 0,
     }
 }
 
@@ -242,12 +246,11 @@ fn number_or(low: u64, high: u64, default: u64, value: Option<&str>) -> u64
 fn limits_of(arguments: &[Argument<'_>]) -> Limits
     ensures { result ≡ limits_of (map view_of arguments.now) }
 {
-    let farthest = 1 << 40;
     Limits {
-        actions: number_or(1, 64, 64, value_of(arguments, Setting::Actions)) as u32,
-        horizon: number_or(1, farthest, farthest, value_of(arguments, Setting::Horizon)),
+        actions: number_of(arguments, Setting::Actions) as u32,
+        horizon: number_of(arguments, Setting::Horizon),
         lead: 0,
-        nodes: number_or(1, 200_000, 50_000, value_of(arguments, Setting::Nodes)) as u32,
+        nodes: number_of(arguments, Setting::Nodes) as u32,
     }
 }
 
@@ -264,7 +267,7 @@ fn file_count(arguments: &[Argument<'_>]) -> usize
     count
 }
 
-/// The order of a command with its one file, and with the plan file that `validate` needs.
+/// The order of a command with its first file, and with the plan file that `validate` needs.
 fn order_from(
     alloc: Global,
     command: Command,
@@ -276,15 +279,14 @@ fn order_from(
     ensures { Answers result (order_from command count (option_map (λ t. t.now) file.entry)
         (option_map (λ t. t.now) plan.entry) limits) }
 {
-    let Some(file) = file else {
-        return Err(WordFault::FileCount { at: count });
-    };
-    match command {
-        Command::Solve => Ok(Order::Solve {
+    match (command, file) {
+        (Command::Help, _) => Ok(Order::Help),
+        (_, None) => Err(WordFault::FileCount { at: count }),
+        (Command::Solve, Some(file)) => Ok(Order::Solve {
             ground: Name::of(alloc, file)?,
             limits,
         }),
-        Command::Validate => match plan {
+        (Command::Validate, Some(file)) => match plan {
             Some(plan) => Ok(Order::Validate {
                 ground: Name::of(alloc, file)?,
                 plan: Name::of(alloc, plan)?,
@@ -292,6 +294,29 @@ fn order_from(
             }),
             None => Err(WordFault::Missing { at: count }),
         },
+    }
+}
+
+/// The order of all arguments of a command, where it takes so many files.
+fn whole_order(
+    alloc: Global,
+    command: Command,
+    count: u32,
+    arguments: &[Argument<'_>],
+) -> Result<Order, WordFault>
+    ensures { Answers result (whole_order command count (map view_of arguments.now)) }
+{
+    if takes(command, file_count(arguments) as u64) {
+        order_from(
+            alloc,
+            command,
+            count,
+            first_file(arguments),
+            value_of(arguments, Setting::PlanFile),
+            limits_of(arguments),
+        )
+    } else {
+        Err(WordFault::FileCount { at: count })
     }
 }
 
@@ -306,14 +331,7 @@ fn judge(
 {
     match words_fault(arguments) {
         Some(fault) => Err(fault),
-        None => order_from(
-            alloc,
-            command,
-            count,
-            only_file(arguments),
-            value_of(arguments, Setting::PlanFile),
-            limits_of(arguments),
-        ),
+        None => whole_order(alloc, command, count, arguments),
     }
 }
 
@@ -321,8 +339,8 @@ fn judge(
 /// in any order. An option stands as `--name`, with the next word for its value, whatever that is,
 /// or as `--name=value`. A number is 1 to 13 digits. `solve` takes one file and `--actions` (1 to
 /// 64), `--horizon` (1 to 2^40) and `--nodes` (1 to 200,000); `validate` takes one file, `--plan`,
-/// which it needs, `--actions` and `--horizon`. The answer is exactly what the words say, or their
-/// first fault, or want of memory.
+/// which it needs, `--actions` and `--horizon`; `help` takes no file and no option. The answer is
+/// exactly what the words say, or their first fault, or want of memory.
 pub fn read_words(alloc: Global, words: &[String]) -> Result<Order, WordFault>
     requires { length words.now < 2 ^ 31 }
     ensures { Answers result (order_of (map string_bytes words.now)) }

@@ -10,7 +10,7 @@ returns-in-Err-Said-clause-ends g c =
     inr (
       says-why (ground_file c.args.name.now)
           (record { files = g.F.Files.view c.args.files.now; sink = g.O.Sink.view c.args.out.now })
-          (record { files = g.F.Files.view c.load_untimed.new.files; sink = g.O.Sink.view c.say.new.out })
+          (record { files = g.F.Files.view c.load_ground.new.files; sink = g.O.Sink.view c.say.new.out })
           c.in-Err-Said.answer.status c.in-Err-Said.answer.line.items c.say.result.status why printed,
       record {
         none = c.say.ensures.history;
