@@ -1,0 +1,10 @@
+use Rattle.std.proofs.Common.{◌≡◌, take}
+use Rattle.std.specs.List.{flat_map}
+use Rattle.grounder.specs.Sources.{source_of}
+use Rattle.grounder.specs.Naming.{schema_facts}
+use Rattle.grounder.proofs.naming.actions_facts.Given as goal
+
+abbrev pub invariant-loop-number : goal.invariant-loop-number
+invariant-loop-number l =
+    l.names ≡ flat_map (schema_facts (source_of l.start.source))
+    (take l.number l.start.source.domain.now.actions)

@@ -1,0 +1,11 @@
+use Rattle.std.proofs.Common.{◌≡◌, ◌++◌, take}
+use Rattle.std.specs.List.{flat_map}
+use Rattle.grounder.specs.Sources.{source_of}
+use Rattle.grounder.specs.Naming.{remaining_fluents}
+use Rattle.grounder.proofs.naming.with_conds_fluents.Given as goal
+
+abbrev pub invariant-loop-condition : goal.invariant-loop-condition
+invariant-loop-condition l =
+    l.names ≡ l.fn.names
+    ++ flat_map (remaining_fluents (source_of l.start.source) l.objects)
+    (take l.condition-index l.conditions)

@@ -1,0 +1,12 @@
+pub mod Sources
+pub mod Objects
+pub mod Starts
+pub mod Rigid
+pub mod Lengths
+pub mod Kept
+pub mod Cuts
+pub mod Naming
+pub mod Parts
+pub mod Grounded
+pub mod Samples
+pub mod Pinned
