@@ -16,13 +16,22 @@ class Problem:
     expression a number, a fluent or (`+` or `-`, EXPRESSION, EXPRESSION)."""
 
     def __init__(self):
-        self.fluents, self.actions, self.init, self.goal = {}, [], set(), []
+        self.fluents, self.actions, self.timed, self.init, self.goal = {}, [], {}, set(), []
 
     def instant(self, name, conds, effects):
-        self.actions.append((name, conds, effects))
+        self.actions.append((name, None, (conds, [], [], effects, [])))
+
+    def durative(self, name, least, most, conds, invariants, end_conds, effects, end_effects):
+        """An action whose length is at least and at most so many ticks."""
+        self.actions.append((name, (least, most), (conds, invariants, end_conds, effects, end_effects)))
+
+    def at(self, tick, literal):
+        """A timed literal."""
+        self.timed.setdefault(tick, []).append(literal)
 
     def text(self):
-        parts = [part for _, conds, effects in self.actions for part in conds + effects] + self.goal
+        parts = [part for _, _, lists in self.actions for part in sum(lists, [])] + self.goal
+        parts += [part for literals in self.timed.values() for part in literals]
         facts = sorted({part[1:] for part in parts if isinstance(part, str)})
         fluents = sorted(self.fluents)
         fact_at = {fact: k for k, fact in enumerate(facts)}
@@ -45,10 +54,18 @@ class Problem:
 
         lines = ["ground 1", "scale 1", "facts %d" % len(facts)] + facts
         lines += ["fluents %d" % len(fluents)] + fluents + ["actions %d" % len(self.actions)]
-        for name, conds, effects in self.actions:
-            lines += ["act " + name, "instant", line("cs", conds), line("es", effects)]
+        for name, length, lists in self.actions:
+            if length is None:
+                lines += ["act " + name, "instant", line("cs", lists[0]), line("es", lists[3])]
+            else:
+                heads = ("cs", "co", "ce", "es", "ee")
+                lines += ["act " + name, "length %d %d" % length]
+                lines += [line(head, of) for head, of in zip(heads, lists)]
+        lines += ["timed %d" % len(self.timed)]
+        for tick in sorted(self.timed):
+            lines += [line("at %d" % tick, sorted(self.timed[tick], key=lambda part: fact_at[part[1:]]))]
         holding = sorted(fact_at[fact] for fact in self.init if fact in fact_at)
-        lines += ["timed 0", " ".join(["init"] + [str(k) for k in holding])]
+        lines += [" ".join(["init"] + [str(k) for k in holding])]
         lines += [" ".join(["values"] + [str(self.fluents[fluent]) for fluent in fluents])]
         return "\n".join(lines + [line("goal", self.goal), "end"]) + "\n"
 
@@ -188,7 +205,83 @@ def fuel(size, seed):
     return problem
 
 
-FAMILIES = {family.__name__: family for family in (slide, logistics, deadplain, deep, grid, wide, fuel)}
+def drawn_ways(customers, draws):
+    """The depot, so many customers, and the ticks of the way between each two places."""
+    places = ["depot"] + ["c%d" % (k + 1) for k in range(customers)]
+    return places, {(a, b): draws.randint(3, 9) for a in places for b in places if a != b}
+
+
+def put_couriers(problem, vehicles, places, ways, deadlines):
+    """Vehicles that drive from a depot between customers, each of whom is served until a deadline of its own."""
+    for vehicle in vehicles:
+        for (a, b), way in ways.items():
+            here, there = "at %s %s" % (vehicle, a), "at %s %s" % (vehicle, b)
+            name = "drive %s %s %s" % (vehicle, a, b)
+            problem.durative(name, way, way, ["+" + here], [], [], ["-" + here], ["+" + there])
+    for vehicle in vehicles:
+        for place in places[1:]:
+            here = "+at %s %s" % (vehicle, place)
+            kept = [here, "+open " + place]
+            problem.durative("serve %s %s" % (vehicle, place), 3, 3, [here], kept, [], [], ["+served " + place])
+    for place, deadline in zip(places[1:], deadlines):
+        problem.init.add("open " + place)
+        problem.at(deadline, "-open " + place)
+        problem.goal.append("+served " + place)
+    problem.init |= {"at %s depot" % vehicle for vehicle in vehicles}
+
+
+def deadlines(size, seed):
+    """Durative, with a deadline for each customer: so many customers, three vehicles: dead words and timed items."""
+    problem, draws = Problem(), random.Random(seed)
+    places, ways = drawn_ways(size, draws)
+    late = [20 + 9 * k + draws.randint(0, 5) for k in range(1, size + 1)]
+    put_couriers(problem, ["v1", "v2", "v3"], places, ways, late)
+    return problem
+
+
+def dead(size, seed):
+    """Durative, without a plan: the couriers with late deadlines, and a goal part that nothing adds."""
+    problem, (places, ways) = Problem(), drawn_ways(size, random.Random(seed))
+    put_couriers(problem, ["v1", "v2"], places, ways, [300 + 40 * k for k in range(size)])
+    problem.goal.append("+never")
+    return problem
+
+
+def late(size, seed):
+    """Durative, without a plan: the couriers with deadlines behind the readings of a clock that moves each turn."""
+    problem, (places, ways) = Problem(), drawn_ways(size, random.Random(seed))
+    put_couriers(problem, ["v1", "v2"], places, ways, [1_000_000 + 40 * k for k in range(size)])
+    problem.goal.append("+never")
+    return problem
+
+
+def deepd(size, seed):
+    """Durative and deep: 26 acts in a row, each of which ends on its day, then so many steps of walking: words of 52
+    groups and more."""
+    problem, cells = Problem(), size + 2
+    for k in range(26):
+        conds, day = ["+s %d" % k, "-s %d" % (k + 1)], ["+day %d" % (k // 3)]
+        problem.durative("up %d" % k, 2, 4, conds, [], day, [], ["+s %d" % (k + 1)])
+        problem.goal.append("+s %d" % (k + 1))
+    for cell in range(cells):
+        for step in (1, 2, -1):
+            if 0 <= cell + step < cells:
+                here, there = "at %d" % cell, "at %d" % (cell + step)
+                name = "go %d %d" % (cell, cell + step)
+                problem.durative(name, 1, 3, ["+" + here, "+s 26"], [], [], ["-" + here], ["+" + there])
+    for day in range(9):
+        problem.init.add("day %d" % day)
+        problem.at(100000, "-day %d" % day)
+    problem.init |= {"s 0", "at 0"}
+    problem.goal += ["+at %d" % (cells - 1), "+lit"]
+    problem.durative("lamp", 1, 9, ["+at %d" % (cells - 1)], [], [], [], ["+lit"])
+    return problem
+
+
+FAMILIES = {
+    family.__name__: family
+    for family in (slide, logistics, deadplain, deep, grid, wide, fuel, deadlines, dead, late, deepd)
+}
 
 
 def text(family, size, seed=1):

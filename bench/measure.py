@@ -5,6 +5,7 @@ least of some runs that take a second or more together, and the cases that are c
 slows down slows all of them.
 """
 import os
+import re
 import subprocess
 import sys
 
@@ -61,6 +62,18 @@ def seconds(words, wanted):
     if printed != wanted:
         stop("%s printed %r, status %d" % (words, printed, status))
     return spent
+
+
+def callgrind(words, wanted, folder):
+    """What callgrind wrote of one run, which must print what is wanted, and its instructions."""
+    out = os.path.join(folder, "callgrind.out")
+    tool = ["valgrind", "--quiet", "--tool=callgrind", "--callgrind-out-file=" + out]
+    done = subprocess.run(tool + words, stdout=subprocess.PIPE, stderr=subprocess.PIPE)
+    if done.stdout != wanted:
+        stop("%s printed %r, status %d" % (words, done.stdout, done.returncode))
+    with open(out) as file:
+        text = file.read()
+    return text, int(re.search(r"^totals: (\d+)", text, re.M).group(1))
 
 
 def peak(words):
