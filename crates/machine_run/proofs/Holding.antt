@@ -7,12 +7,15 @@ use Rattle.tp_spec.specs.declared.event.Event.TheVariants.{Expand, Publish, Limi
 use Rattle.tp_spec.specs.declared.plan.Limits.{Limits}
 use Rattle.tp_spec.specs.declared.plan.Mark.{Mark}
 use Rattle.tp_spec.specs.declared.plan.Plan.{Plan}
+use Rattle.tp_spec.specs.declared.plan.Timed.{Timed}
 use Rattle.tp_spec.specs.declared.problem.Problem.{Problem}
 use Rattle.tp_spec.specs.Lists.{IsIn}
 use Rattle.tp_spec.specs.Machine.{Machine, step, state_of, word_of, AreLiveMarks, ExpandIsLegal}
-use Rattle.tp_laws.specs.Histories.{IsTree}
+use Rattle.tp_spec.specs.Schedules.{awaited}
+use Rattle.tp_spec.specs.Words.{acts_of}
+use Rattle.run_laws.specs.Histories.{IsTree}
 use Rattle.tp_laws.specs.Plans.{is_whole}
-use Rattle.tp_laws.proofs.EarlyCover.{word_of-in}
+use Rattle.run_laws.proofs.Covering.{word_of-in}
 use Rattle.word_frontier.specs.declared.child.Child.{Child}
 use Rattle.word_frontier.specs.Nodes.{FrontierView, children_from, live_at}
 use Rattle.word_frontier.specs.Nodes as kept_nodes
@@ -40,7 +43,7 @@ all-in P (y ∷ ys) h x (inr i) = all-in P ys (λ k d below. h (suc k) d (omega 
 pub held-none : (r : RunView) (actor id : ℕ) → Holds r actor id → has_outcome r.history ≡ false
 held-none r actor id held = sym (over-of r.limits r.history) ∙ held.may.between.standing
 
-module _ {p : Problem} {l : Limits} {h : List Event} {f : FrontierView} {len capacity clock : ℕ} {over : Bool} (kept : IsKept (parts (run p l h f) len capacity clock over)) (actor id : ℕ) (held : Holds (run p l h f) actor id) where
+module _ {p : Problem} {l : Limits} {h : List Event} {f : FrontierView} {commits : List Timed} {len capacity clock : ℕ} {over : Bool} (kept : IsKept (parts (run p l h f) commits len capacity clock over)) (actor id : ℕ) (held : Holds (run p l h f) actor id) where
   abbrev m : Machine
   m = state_of l h
 
@@ -66,10 +69,10 @@ module _ {p : Problem} {l : Limits} {h : List Event} {f : FrontierView} {len cap
   pub clock-is : clock ≡ m.now
   clock-is = kept.clocked (still kept none)
 
-  pub kept-publish : {new_clock new_len new_capacity : ℕ} (plan : Plan) (new : List Event) → is_whole p w ≡ true → IsEarliest p l m.now m.commits w plan → new ≡ h ++ Publish actor id plan ∷ []
-      → IsKept (parts (run p l new f) new_len new_capacity new_clock true)
-  kept-publish plan new whole earliest grown = kept-end kept (Publish actor id plan) new f grown refl refl
-      (publish-legal p l kept.stands.formed m trees actor id w held.may found word plan whole earliest)
+  pub kept-publish : {new_clock new_len new_capacity : ℕ} (plan : Plan) (new : List Event) → is_whole p w ≡ true → awaited (acts_of p w) m.commits ≡ [] → IsEarliest p l m.now m.commits w plan → new ≡ h ++ Publish actor id plan ∷ []
+      → IsKept (parts (run p l new f) commits new_len new_capacity new_clock true)
+  kept-publish plan new whole all earliest grown = kept-end kept (Publish actor id plan) new f grown refl refl
+      (publish-legal p l kept.stands.formed m trees actor id w held.may found word plan whole all earliest) refl
 
   module _ (children : List Child) (offspring : AreOffspring (run p l h f) id children) where
     abbrev now_live : List Child
@@ -86,9 +89,9 @@ module _ {p : Problem} {l : Limits} {h : List Event} {f : FrontierView} {len cap
     few-children = omega (arith, counted, marks-few p l kept.stands.formed m w (marks_of now_live) exact)
 
     pub kept-limit : {new_clock new_len new_capacity : ℕ} (made count : ℕ) (new : List Event) → made ≡ f.made → count ≡ length now_live → l.nodes < f.made + length now_live → new ≡ h ++ Limit actor id made count ∷ []
-        → IsKept (parts (run p l new f) new_len new_capacity new_clock true)
+        → IsKept (parts (run p l new f) commits new_len new_capacity new_clock true)
     kept-limit made count new given told full grown = kept-end kept (Limit actor id made count) new f grown refl refl
-        (limit-legal p l kept.stands.formed m trees actor id w held.may found word (marks_of now_live) made count offspring.incomplete exact (given ∙ is.made) (told ∙ counted) (omega (arith, full, given, told)))
+        (limit-legal p l kept.stands.formed m trees actor id w held.may found word (marks_of now_live) made count offspring.incomplete exact (given ∙ is.made) (told ∙ counted) (omega (arith, full, given, told))) refl
 
     pub ranks-fit : (n : ℕ) → n ≡ f.ranks → All (λ c. c.rank < n) children
     ranks-fit n same = ranks-below p l m.commits w children n (subst (λ k. length p.goal < k) (sym same) kept.stands.queued) offspring.each
@@ -104,11 +107,11 @@ module _ {p : Problem} {l : Limits} {h : List Event} {f : FrontierView} {len cap
       pub ids-fit : f.made + length now_live < 2 ^ 32
       ids-fit = omega (arith, room, kept.stands.limited.nodes)
 
-      pub kept-expand : {new_len new_capacity : ℕ} (new : List Event) (g : FrontierView) → g.nodes ≡ kept_nodes.without id f.nodes ++ children_from w f.made now_live → g.made ≡ f.made + length now_live → g.ranks ≡ f.ranks
-          → new ≡ h ++ Expand actor id (marks_of now_live) ∷ [] → new_len < new_capacity → IsKept (parts (run p l new g) new_len new_capacity clock over)
-      kept-expand new g nodes made ranks grown fits = kept-step kept (Expand actor id (marks_of now_live)) new g (still kept none) grown ranks refl legal
-          (frontier-expand p l f g m actor id now_live (λ c i. all-in (IsChild p l m.commits w) now_live offspring.exact.each c i) nodes (made ∙ ap (λ k. f.made + k) counted) is)
-          clock-is fits
+      pub kept-expand : {new_len new_capacity : ℕ} (known : ℕ) (new : List Event) (g : FrontierView) → known ≡ length m.commits → g.nodes ≡ kept_nodes.without id f.nodes ++ children_from known w f.made now_live → g.made ≡ f.made + length now_live → g.ranks ≡ f.ranks
+          → new ≡ h ++ Expand actor id (marks_of now_live) ∷ [] → new_len < new_capacity → IsKept (parts (run p l new g) commits new_len new_capacity clock over)
+      kept-expand known new g all nodes made ranks grown fits = kept-step kept (Expand actor id (marks_of now_live)) new g (still kept none) grown ranks refl legal
+          (frontier-expand p l f g m actor id known now_live all (λ c i. all-in (IsChild p l m.commits w) now_live offspring.exact.each c i) nodes (made ∙ ap (λ k. f.made + k) counted) is)
+          kept.committed clock-is fits
 
 -- behind an Expand the turn goes on
 

@@ -3,9 +3,11 @@ pub mod Standing
 pub mod Ranks
 pub mod Nodes
 pub mod Frontiers
+pub mod Renewing
 pub mod Roots
 pub mod Legal
 pub mod Settling
+pub mod Dispatching
 pub mod Taking
 pub mod LiveMarks
 pub mod Holding

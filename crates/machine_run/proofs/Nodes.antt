@@ -43,7 +43,7 @@ in-passes {A} test x (y ∷ xs) h = by_test (λ i. in-passes test x xs i) (test 
 
 -- nodes of one id are one node
 
-other-id : (a b : Node) (ns : List Node) → each_pair (λ x y. not (x.id == y.id)) (a ∷ ns) ≡ true → IsIn b ns → a.id ≡ b.id → ⊥
+pub other-id : (a b : Node) (ns : List Node) → each_pair (λ x y. not (x.id == y.id)) (a ∷ ns) ≡ true → IsIn b ns → a.id ≡ b.id → ⊥
 other-id a b ns apart h same =
     let e : not (a.id == b.id) ≡ true = each-in (λ k. not (a.id == k.id) ≡ true) ns b (each-true (λ k. not (a.id == k.id)) ns (and_parts _ _ apart).0) h in
     false≢true (ap not (sym (eq-eqb a.id b.id same)) ∙ e)

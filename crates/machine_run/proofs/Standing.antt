@@ -1,16 +1,19 @@
 -- One legal event more: what a run keeps.
 use Rattle.std.proofs.Common.{◌≡◌, refl, sym, ap, subst, ◌∙◌, ℕ, ◌<◌, inl, inr, Bool, true, false, List, [], ◌∷◌, ◌++◌, length, take}
 use Rattle.std.proofs.lemmas.Bool.{false≢true}
+use Rattle.std.proofs.lemmas.List.{take_at}
 use Rattle.tp_spec.specs.declared.event.Event.{Event}
 use Rattle.tp_spec.specs.declared.event.Event.TheVariants.{Halt}
 use Rattle.tp_spec.specs.declared.event.Cause.{Cause}
 use Rattle.tp_spec.specs.declared.event.Cause.TheVariants.{Memory}
 use Rattle.tp_spec.specs.declared.plan.Limits.{Limits}
+use Rattle.tp_spec.specs.declared.plan.Timed.{Timed}
 use Rattle.tp_spec.specs.declared.problem.Problem.{Problem}
-use Rattle.tp_spec.specs.Machine.{Machine, first, step, state_of, AreLegal, Legal, IsBetween}
-use Rattle.tp_laws.specs.Histories.{IsTree}
-use Rattle.tp_laws.proofs.Runs.{tree-of, end-append, legal-append, legal-parts}
-use Rattle.tp_laws.proofs.WordLaws.{fronts-live}
+use Rattle.tp_spec.specs.Machine.{Machine, first, step, state_of, AreLegal, IsRun, Legal, IsBetween}
+use Rattle.run_laws.specs.Commitments.{CommitsGrow}
+use Rattle.run_laws.specs.Histories.{IsTree}
+use Rattle.run_laws.proofs.Runs.{tree-of, end-append, legal-append, legal-parts}
+use Rattle.tp_laws.proofs.WordLaws.{word-laws}
 use Rattle.word_frontier.specs.Nodes.{FrontierView}
 use Rattle.machine_run.specs.Deeds.{IsRested, HasStart}
 use Rattle.machine_run.specs.Frontiers.{Stands, CoversAll, IsFrontierOf}
@@ -21,7 +24,7 @@ use Rattle.machine_run.proofs.Frontiers.{frontier-same}
 use Rattle.machine_run.proofs.Outcomes.{over-of, outcome-behind, none-behind}
 
 pub tree-stands : (r : RunView) → Stands r → IsTree r.problem r.limits (state r)
-tree-stands r s = tree-of r.problem r.limits (fronts-live r.problem r.limits s.formed) r.history s.run
+tree-stands r s = tree-of r.problem r.limits (word-laws r.problem r.limits s.formed).fronts r.history s.run
 
 pub covers-all : (r : RunView) → Stands r → CoversAll r.problem r.limits (state r)
 covers-all r s = (tree-stands r s).covers
@@ -40,10 +43,10 @@ rested-between r rested = elim rested.settled [
 abbrev pub run : Problem → Limits → List Event → FrontierView → RunView
 run p l h f = record { problem = p; limits = l; history = h; frontier = f }
 
-abbrev pub parts : RunView → ℕ → ℕ → ℕ → Bool → RunParts
-parts r len capacity clock over = record { run = r; len = len; capacity = capacity; clock = clock; over = over }
+abbrev pub parts : RunView → List Timed → ℕ → ℕ → ℕ → Bool → RunParts
+parts r commits len capacity clock over = record { run = r; commits = commits; len = len; capacity = capacity; clock = clock; over = over }
 
-module _ {p : Problem} {l : Limits} {h : List Event} {f : FrontierView} {len capacity clock : ℕ} {over : Bool} (kept : IsKept (parts (run p l h f) len capacity clock over)) where
+module _ {p : Problem} {l : Limits} {h : List Event} {f : FrontierView} {commits : List Timed} {len capacity clock : ℕ} {over : Bool} (kept : IsKept (parts (run p l h f) commits len capacity clock over)) where
   abbrev now_at : Machine
   now_at = state_of l h
 
@@ -65,11 +68,12 @@ module _ {p : Problem} {l : Limits} {h : List Event} {f : FrontierView} {len cap
   }
 
   -- an event that is no outcome
-  pub kept-step : {new_clock new_len new_capacity : ℕ} (e : Event) (new : List Event) (g : FrontierView) → over ≡ false → new ≡ h ++ e ∷ [] → g.ranks ≡ f.ranks → is_outcome e ≡ false
-      → Legal p l now_at e → IsFrontierOf p l g (step l now_at e) → new_clock ≡ (step l now_at e).now → new_len < new_capacity
-      → IsKept (parts (run p l new g) new_len new_capacity new_clock over)
-  kept-step e new g open_still grown ranks plain legal is told room = record {
+  pub kept-step : {new_commits : List Timed} {new_clock new_len new_capacity : ℕ} (e : Event) (new : List Event) (g : FrontierView) → over ≡ false → new ≡ h ++ e ∷ [] → g.ranks ≡ f.ranks → is_outcome e ≡ false
+      → Legal p l now_at e → IsFrontierOf p l g (step l now_at e) → new_commits ≡ (step l now_at e).commits → new_clock ≡ (step l now_at e).now → new_len < new_capacity
+      → IsKept (parts (run p l new g) new_commits new_len new_capacity new_clock over)
+  kept-step e new g open_still grown ranks plain legal is committed told room = record {
     stands = stands-step e new g grown ranks legal (λ none. is);
+    committed = committed ∙ sym (ap (λ (m : Machine). m.commits) (state-behind l h e new grown));
     told = open_still ∙ sym (none-behind h e new grown (none-of open_still) plain);
     clocked = λ none. told ∙ sym (ap (λ (m : Machine). m.now) (state-behind l h e new grown));
     room = λ none. room;
@@ -77,10 +81,11 @@ module _ {p : Problem} {l : Limits} {h : List Event} {f : FrontierView} {len cap
 
   -- an outcome
   pub kept-end : {new_clock new_len new_capacity : ℕ} (e : Event) (new : List Event) (g : FrontierView) → new ≡ h ++ e ∷ [] → g.ranks ≡ f.ranks → is_outcome e ≡ true
-      → Legal p l now_at e → IsKept (parts (run p l new g) new_len new_capacity new_clock true)
-  kept-end e new g grown ranks ends legal =
+      → Legal p l now_at e → (step l now_at e).commits ≡ now_at.commits → IsKept (parts (run p l new g) commits new_len new_capacity new_clock true)
+  kept-end e new g grown ranks ends legal same =
       let is_over : has_outcome new ≡ true = outcome-behind h e new grown ends in record {
         stands = stands-step e new g grown ranks legal (λ none. absurd (false≢true (sym none ∙ is_over)));
+        committed = kept.committed ∙ sym same ∙ sym (ap (λ (m : Machine). m.commits) (state-behind l h e new grown));
         told = sym is_over;
         clocked = λ none. absurd (false≢true (sym none));
         room = λ none. absurd (false≢true (sym none));
@@ -88,8 +93,8 @@ module _ {p : Problem} {l : Limits} {h : List Event} {f : FrontierView} {len cap
 
   -- more room alone
   pub kept-lent : {new_len new_capacity : ℕ} (new : List Event) (g : FrontierView) → new ≡ h → g.nodes ≡ f.nodes → g.made ≡ f.made → g.ranks ≡ f.ranks → (over ≡ false → new_len < new_capacity)
-      → IsKept (parts (run p l new g) new_len new_capacity clock over)
-  kept-lent {new_len} {new_capacity} new g same nodes made ranks room = subst (λ es. IsKept (parts (run p l es g) new_len new_capacity clock over)) (sym same) (record {
+      → IsKept (parts (run p l new g) commits new_len new_capacity clock over)
+  kept-lent {new_len} {new_capacity} new g same nodes made ranks room = subst (λ es. IsKept (parts (run p l es g) commits new_len new_capacity clock over)) (sym same) (record {
     stands = record {
       formed = kept.stands.formed;
       limited = kept.stands.limited;
@@ -97,6 +102,7 @@ module _ {p : Problem} {l : Limits} {h : List Event} {f : FrontierView} {len cap
       queued = subst (λ n. length p.goal < n) (sym ranks) kept.stands.queued;
       frontier = λ none. frontier-same p l f g now_at now_at nodes made refl refl refl (kept.stands.frontier none);
     };
+    committed = kept.committed;
     told = kept.told;
     clocked = kept.clocked;
     room = room;
@@ -104,22 +110,15 @@ module _ {p : Problem} {l : Limits} {h : List Event} {f : FrontierView} {len cap
 
   -- a halt behind a settled run
   pub kept-halt : {new_clock new_len new_capacity : ℕ} (cause : Cause) (new : List Event) → IsRested (run p l h f) → new ≡ h ++ Halt cause ∷ []
-      → IsKept (parts (run p l new f) new_len new_capacity new_clock true)
-  kept-halt cause new rested grown = kept-end (Halt cause) new f grown refl refl (rested-between (run p l h f) rested)
+      → IsKept (parts (run p l new f) commits new_len new_capacity new_clock true)
+  kept-halt cause new rested grown = kept-end (Halt cause) new f grown refl refl (rested-between (run p l h f) rested) refl
 
--- the front of a history is one that was cut off there
-
-pub take-front : (front rest : List Event) (n : ℕ) → length front ≡ n → take n (front ++ rest) ≡ front
-take-front front rest n e = subst (λ k. take k (front ++ rest) ≡ front) e (by_front front) where
-  by_front : (xs : List Event) → take (length xs) (xs ++ rest) ≡ xs
-  by_front [] = refl
-  by_front (x ∷ xs) = ap (λ ys. x ∷ ys) (by_front xs)
-
-module _ {p : Problem} {l : Limits} {h : List Event} {f : FrontierView} {len capacity clock : ℕ} {over : Bool} (kept : IsKept (parts (run p l h f) len capacity clock over)) where
-  pub kept-cut : {new_clock new_len new_capacity : ℕ} (n : ℕ) (new cut : List Event) → HasStart (run p l h f) n → cut ≡ take n h → new ≡ cut ++ Halt Memory ∷ []
-      → IsKept (parts (run p l new f) new_len new_capacity new_clock true)
-  kept-cut n new cut start taken grown =
-      let front_is : cut ≡ start.front = taken ∙ ap (take n) start.grown ∙ take-front start.front start.rest n start.counted in
+module _ {p : Problem} {l : Limits} {h : List Event} {f : FrontierView} {commits : List Timed} {len capacity clock : ℕ} {over : Bool} (kept : IsKept (parts (run p l h f) commits len capacity clock over)) where
+  pub kept-cut : {new_commits : List Timed} {new_clock new_len new_capacity : ℕ} (n held : ℕ) (new cut : List Event) → CommitsGrow p l → HasStart (run p l h f) n held → cut ≡ take n h → new_commits ≡ take held commits → new ≡ cut ++ Halt Memory ∷ []
+      → IsKept (parts (run p l new f) new_commits new_len new_capacity new_clock true)
+  kept-cut n held new cut grow start taken left grown =
+      let more = grow start.front start.rest (subst (IsRun p l) start.grown kept.stands.run) in
+      let front_is : cut ≡ start.front = taken ∙ ap (take n) start.grown ∙ take_at start.front start.rest n start.counted in
       let whole : new ≡ start.front ++ Halt Memory ∷ [] = grown ∙ ap (λ es. es ++ Halt Memory ∷ []) front_is in
       let legal : AreLegal p l first start.front = (legal-parts p l first start.front start.rest (subst (AreLegal p l first) start.grown kept.stands.run.legal)).0 in
       let is_over : has_outcome new ≡ true = outcome-behind start.front (Halt Memory) new whole refl in record {
@@ -133,6 +132,10 @@ module _ {p : Problem} {l : Limits} {h : List Event} {f : FrontierView} {len cap
           queued = kept.stands.queued;
           frontier = λ none. absurd (false≢true (sym none ∙ is_over));
         };
+        committed = left
+            ∙ ap (take held) (kept.committed ∙ ap (λ es. (state_of l es).commits) start.grown ∙ more.1)
+            ∙ take_at (state_of l start.front).commits more.0 held start.committed
+            ∙ sym (ap (λ (m : Machine). m.commits) (state-behind l start.front (Halt Memory) new whole));
         told = sym is_over;
         clocked = λ none. absurd (false≢true (sym none));
         room = λ none. absurd (false≢true (sym none));

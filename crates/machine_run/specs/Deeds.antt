@@ -80,11 +80,12 @@ pub record Expands (old new : RunView) (actor id : ℕ) (children : List Child) 
   pub settling : Settles middle new.history
   pub settled : IsSettled new.problem new.limits (state new)
 
--- the history began with a settled run without an outcome, of so many events
-pub record HasStart (r : RunView) (start : ℕ) : Type 0 where
+-- the history began with a settled run without an outcome, of so many events and commitments
+pub record HasStart (r : RunView) (start held : ℕ) : Type 0 where
   pub front : List Event
   pub rest : List Event
   pub grown : r.history ≡ front ++ rest
   pub counted : length front ≡ start
+  pub committed : length (state_of r.limits front).commits ≡ held
   pub standing : has_outcome front ≡ false
   pub settled : IsSettled r.problem r.limits (state_of r.limits front)

@@ -1,5 +1,5 @@
 -- The frontier that is kept, and the machine's.
-use Rattle.std.specs.Prelude.{◌≡◌, ◌<◌, length, map, false}
+use Rattle.std.specs.Prelude.{◌≡◌, ◌<◌, ◌≤◌, length, map, take, false}
 use Rattle.tp_spec.specs.declared.plan.Limits.{Limits}
 use Rattle.tp_spec.specs.declared.plan.Plan.{Plan}
 use Rattle.tp_spec.specs.declared.problem.Problem.{Problem}
@@ -18,13 +18,16 @@ abbrev pub plain_node : RankedNode → Node
 plain_node n = record { id = n.id; word = n.word; taker = n.taker }
 
 -- The nodes and the number of ids are the machine's; each kept rank is the rank of the word, and
--- each kept deadline is the word's under the machine's commitments.
+-- each kept deadline is the word's under the first so many of the machine's commitments as it was
+-- found under.
 pub record IsFrontierOf (p : Problem) (l : Limits) (f : FrontierView) (m : Machine)
     : Type 0 where
   pub nodes : map plain_node f.nodes ≡ m.nodes
   pub made : f.made ≡ m.made
   pub ranked : (n : RankedNode) → IsIn n f.nodes → n.rank ≡ rank p n.word
-  pub timely : (n : RankedNode) → IsIn n f.nodes → IsDeadline p l m.commits n.word n.deadline
+  pub known : (n : RankedNode) → IsIn n f.nodes → n.known ≤ length m.commits
+  pub timely : (n : RankedNode) → IsIn n f.nodes
+      → IsDeadline p l (take n.known m.commits) n.word n.deadline
 
 -- The problem is well formed and the limits are in range; the history is a run; there is a queue
 -- for each rank; and while no outcome stands the frontier is that of the state to which the history

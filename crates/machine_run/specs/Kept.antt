@@ -1,6 +1,7 @@
 -- What a run of the machine keeps between two calls.
-use Rattle.std.specs.Prelude.{◌≡◌, ℕ, ◌+◌, ◌<◌, Bool, false, [], ◌∷◌, ◌++◌, length, None}
+use Rattle.std.specs.Prelude.{◌≡◌, ℕ, ◌+◌, ◌<◌, Bool, false, List, [], ◌∷◌, ◌++◌, length, None}
 use Rattle.tp_spec.specs.declared.event.Event.{Event}
+use Rattle.tp_spec.specs.declared.plan.Timed.{Timed}
 use Rattle.tp_spec.specs.declared.problem.Problem.{Problem}
 use Rattle.tp_spec.specs.Machine.{rank}
 use Rattle.tp_spec.specs.WellFormed.{IsWellFormed}
@@ -10,18 +11,21 @@ use Rattle.machine_run.specs.Frontiers.{Stands}
 use Rattle.machine_run.specs.Turns.{has_outcome}
 use Rattle.machine_run.specs.Views.{RunView, state}
 
--- a run with the length of its history and the room for it, the clock, and whether it is over
+-- a run with its commitments, the length of its history and the room for it, the clock, and
+-- whether it is over
 pub record RunParts : Type 0 where
   pub run : RunView
+  pub commits : List Timed
   pub len : ℕ
   pub capacity : ℕ
   pub clock : ℕ
   pub over : Bool
 
--- The run stands, and it is over where an outcome stands. While none does, the clock is the
--- machine's, and there is room for a halt.
+-- The run stands, the commitments are the machine's, and it is over where an outcome stands. While
+-- none does, the clock is the machine's, and there is room for a halt.
 pub record IsKept (t : RunParts) : Type 0 where
   pub stands : Stands t.run
+  pub committed : t.commits ≡ (state t.run).commits
   pub told : t.over ≡ has_outcome t.run.history
   pub clocked : t.over ≡ false → t.clock ≡ (state t.run).now
   pub room : t.over ≡ false → t.len < t.capacity
@@ -34,6 +38,7 @@ pub record IsRoot (p : Problem) (horizon : ℕ) (f : FrontierView) : Type 0 wher
     word = [];
     rank = rank p [];
     deadline = horizon + 1;
+    known = 0;
     taker = None;
   } ∷ []
   pub made : f.made ≡ 1

@@ -2,20 +2,22 @@ ghost use Rattle.std.specs.Prelude.{◌≡◌, ◌≤◌, ◌<◌, ◌+◌, ◌+
 ghost use Rattle.machine_run.specs.Children.{marks_of};
 ghost use Rattle.machine_run.specs.Deeds.{SameTask, IsRested, Holds, AreOffspring, GivesTake, TookNode, Expands};
 ghost use Rattle.machine_run.specs.Kept.{Writes};
-ghost use Rattle.machine_run.specs.Settling.{SettlesOn, FindsOpen};
+ghost use Rattle.machine_run.specs.Settling.{SettlesOn, FindsOpen, LeastIs, IsDead};
 ghost use Rattle.machine_run.specs.Turns.{Grows, has_outcome};
 ghost use Rattle.machine_run.specs.Views.{state, word_in};
 ghost use Rattle.tp_laws.specs.Plans.{is_whole};
 ghost use Rattle.tp_spec.specs.declared.event.Event.{Event as AnEvent};
 ghost use Rattle.tp_spec.specs.Machine.{MayAct};
-ghost use Rattle.word_frontier.specs.Nodes.{GivesLeast, live_at, open_nodes};
+ghost use Rattle.tp_spec.specs.Schedules.{awaited};
+ghost use Rattle.tp_spec.specs.Words.{acts_of};
+ghost use Rattle.word_frontier.specs.Nodes.{live_at, open_nodes};
 ghost use Rattle.word_network.specs.Schedules.{IsEarliest};
 
 use crate::run::MachineRun;
 use crate::settle::reserve_event;
 use std::alloc::Global;
 use tp_spec::{Event, List, Mark, NoMemory, Plan};
-use word_frontier::{Child, Node, Standing};
+use word_frontier::{Child, Node};
 
 impl<'p> MachineRun<'p> {
     /// The actor whose turn it is takes the least open node that is live, if there is one; dead
@@ -30,16 +32,16 @@ impl<'p> MachineRun<'p> {
     {
         match self.drop_dead(actor)? {
             None => Ok(None),
-            Some(least) => {
-                let node = self.take_open(actor, least)?;
-                Ok(Some((least.id, node)))
+            Some(id) => {
+                let node = self.take_open(actor, id)?;
+                Ok(Some((id, node)))
             }
         }
     }
 
-    /// Drops the open nodes that are dead and come before the least live one, and finds that one,
-    /// if there is one.
-    fn drop_dead(&mut self, actor: u32) -> Result<Option<Standing>, NoMemory>
+    /// Drops the open nodes that are dead and come before the least live one, and finds that one's
+    /// id, if there is one.
+    fn drop_dead(&mut self, actor: u32) -> Result<Option<u32>, NoMemory>
         requires standing { has_outcome self.old.history ≡ false }
         requires may { MayAct self.old.problem self.old.limits (state self.old) actor }
         ensures settles { SettlesOn self.old self.new }
@@ -51,20 +53,20 @@ impl<'p> MachineRun<'p> {
             let Some(least) = self.frontier.least_open() else {
                 return Ok(None);
             };
-            if least.deadline >= self.clock {
-                return Ok(Some(least));
+            match self.live_deadline(least)? {
+                Some(_) => return Ok(Some(least.id)),
+                None => self.drop_open(actor, least.id)?,
             }
-            self.drop_open(actor, least)?;
         }
     }
 
-    /// Drops the least open node, whose deadline has passed. The best node stays the best.
-    fn drop_open(&mut self, actor: u32, least: Standing) -> Result<(), NoMemory>
+    /// Drops the least open node, whose word is dead. The best node stays the best.
+    fn drop_open(&mut self, actor: u32, id: u32) -> Result<(), NoMemory>
         requires standing { has_outcome self.old.history ≡ false }
         requires may { MayAct self.old.problem self.old.limits (state self.old) actor }
-        requires least { GivesLeast (open_nodes self.old.frontier.nodes) (Some least) }
-        requires late { least.deadline < (state self.old).now }
-        ensures ok { OnOk result (Writes self.old self.new (AnEvent.Drop least.id)) }
+        requires least { LeastIs (open_nodes self.old.frontier.nodes) id }
+        requires dead { IsDead self.old id }
+        ensures ok { OnOk result (Writes self.old self.new (AnEvent.Drop id)) }
         ensures may { OnOk result (MayAct self.new.problem self.new.limits (state self.new)
             actor) }
         ensures fewer { OnOk result
@@ -72,36 +74,35 @@ impl<'p> MachineRun<'p> {
         ensures err { OnErr result (self.new ≡ self.old) }
     {
         reserve_event(&mut self.history)?;
-        self.history.push_reserved(Event::Drop { id: least.id });
+        self.history.push_reserved(Event::Drop { id });
         self.frontier.drop_least_open();
         Ok(())
     }
 
     /// Takes the least open node, whose deadline has not passed.
-    fn take_open(&mut self, actor: u32, least: Standing) -> Result<Node, NoMemory>
+    fn take_open(&mut self, actor: u32, id: u32) -> Result<Node, NoMemory>
         requires standing { has_outcome self.old.history ≡ false }
         requires may { MayAct self.old.problem self.old.limits (state self.old) actor }
-        requires found { FindsOpen self.old (Some least) }
-        ensures ok { OnOk result (Writes self.old self.new (AnEvent.Take actor least.id)) }
-        ensures node { IfOk result (TookNode self.new actor least.id) }
+        requires found { FindsOpen self.old (Some id) }
+        ensures ok { OnOk result (Writes self.old self.new (AnEvent.Take actor id)) }
+        ensures node { IfOk result (TookNode self.new actor id) }
         ensures rested { OnOk result (IsRested self.new) }
         ensures err { OnErr result (self.new ≡ self.old) }
     {
-        let node = self.frontier.copy_of(self.alloc, least.id)?;
+        let node = self.frontier.copy_of(self.alloc, id)?;
         reserve_event(&mut self.history)?;
-        self.history.push_reserved(Event::Take {
-            actor,
-            id: least.id,
-        });
+        self.history.push_reserved(Event::Take { actor, id });
         self.frontier.take_least(actor);
         Ok(node)
     }
 
     /// The actor whose turn it is publishes the plan of the least schedule of the word of a node
-    /// that it took, which may be a whole plan's.
+    /// that it took, which may be a whole plan's and has each commitment.
     pub fn publish(&mut self, actor: u32, id: u32, plan: Plan) -> Result<(), NoMemory>
         requires held { Holds self.old actor id }
         requires whole { is_whole self.old.problem (word_in self.old id) ≡ true }
+        requires all { awaited (acts_of self.old.problem (word_in self.old id))
+            (state self.old).commits ≡ [] }
         requires earliest { IsEarliest self.old.problem self.old.limits (state self.old).now
             (state self.old).commits (word_in self.old id) plan }
         ensures task { SameTask self.old self.new }
@@ -169,10 +170,11 @@ impl<'p> MachineRun<'p> {
         ensures same { OnErr result (self.new.history ≡ self.old.history) }
         ensures task { SameTask self.old self.new }
     {
+        let known = self.known();
         let marks = live_marks(self.alloc, children, self.clock)?;
         reserve_event(&mut self.history)?;
         self.frontier.reserve(marks.as_slice().len())?;
-        self.frontier.expand(id, actor, children, self.clock);
+        self.frontier.expand(id, actor, children, self.clock, known);
         self.history
             .push_reserved(Event::Expand { actor, id, marks });
         Ok(())

@@ -7,15 +7,18 @@ ghost use Rattle.machine_run.specs.Turns.{has_outcome};
 ghost use Rattle.machine_run.specs.Views.{state};
 ghost use Rattle.tp_spec.specs.declared.event.Event.{Event as AnEvent};
 ghost use Rattle.word_frontier.specs.Nodes.{is_taken};
-ghost use Rattle.word_network.specs.Conditions.{AreLimits};
+ghost use Rattle.word_network.specs.Conditions.{AreLimits, AreCommits};
 
+use commit_book::Commits;
 use node_state::root_rank;
+use run_laws::commitments_of_runs;
 use std::alloc::Global;
 use std::marker::Model;
-use tp_spec::{Cause, Event, Limits, NoMemory, Problem};
+use tp_spec::{Cause, Event, Limits, NoMemory, Problem, Timed};
 use word_frontier::Frontier;
 
-/// A run of the situated machine: its history, and the frontier of the state to which that leads.
+/// A run of the situated machine: its history, and the commitments and the frontier of the state to
+/// which that leads.
 #[derive(Drop)]
 pub struct MachineRun<'p> {
     pub(crate) alloc: Global,
@@ -23,6 +26,7 @@ pub struct MachineRun<'p> {
     pub(crate) limits: Limits,
     pub(crate) frontier: Frontier,
     pub(crate) history: Vec<Event>,
+    pub(crate) commits: Commits,
     pub(crate) clock: u64,
     pub(crate) over: bool,
 }
@@ -52,6 +56,7 @@ impl<'p> Model for MachineRun<'p> {
         history = r.history.items;
         frontier = r.frontier;
       };
+      commits = r.commits;
       len = vec_len r.history;
       capacity = vec_capacity r.history;
       clock = r.clock;
@@ -80,6 +85,7 @@ impl<'p> MachineRun<'p> {
             limits,
             frontier,
             history,
+            commits: Commits::new(alloc),
             clock: 0,
             over: false,
         })
@@ -115,6 +121,14 @@ impl<'p> MachineRun<'p> {
         &self.history
     }
 
+    /// The commitments, in order of dispatch.
+    pub fn commits(&self) -> &[Timed]
+        ensures acts { result.now ≡ (state self.now).commits }
+        ensures committed { AreCommits self.now.problem result.now }
+    {
+        self.commits.acts()
+    }
+
     /// All events so far, alone.
     pub fn into_history(self) -> Vec<Event>
         ensures { result.items ≡ self.entry.history }
@@ -125,6 +139,7 @@ impl<'p> MachineRun<'p> {
             limits: _,
             frontier: _,
             history,
+            commits: _,
             clock: _,
             over: _,
         } = self;
@@ -170,16 +185,18 @@ impl<'p> MachineRun<'p> {
     }
 
     /// Takes back the events of a turn that was refused memory in its midst, down to so many
-    /// events, and ends the run there.
-    pub fn cut_back(&mut self, start: usize)
+    /// events and commitments, and ends the run there.
+    pub fn cut_back(&mut self, start: usize, held: usize)
         requires standing { has_outcome self.old.history ≡ false }
-        requires start { HasStart self.old start }
+        requires start { HasStart self.old start held }
         ensures task { SameTask self.old self.new }
         ensures cut { (front rest : Items AnEvent) → self.old.history ≡ front ++ rest
             → length front ≡ start
             → self.new.history ≡ front ++ AnEvent.Halt Cause.Memory ∷ [] }
     {
+        commitments_of_runs();
         self.history.truncate(start);
+        self.commits.cut_back(held);
         self.history.push_reserved(Event::Halt {
             cause: Cause::Memory,
         });

@@ -1,7 +1,7 @@
 ghost use Rattle.std.specs.Prelude.{◌≡◌, ◌≤◌, ◌<◌, ◌+◌, [], length, false, Some, IsSome, IfOk, OnOk, OnErr, vec_len, vec_capacity};
 ghost use Rattle.machine_run.specs.Deeds.{SameTask, IsRested, Begins};
 ghost use Rattle.machine_run.specs.Kept.{Writes};
-ghost use Rattle.machine_run.specs.Settling.{SettlesOn, StepsOn};
+ghost use Rattle.machine_run.specs.Settling.{SettlesOn, StepsOn, LeastIs, IsDead, unsettled};
 ghost use Rattle.machine_run.specs.Turns.{Grows, has_outcome};
 ghost use Rattle.machine_run.specs.Views.{state};
 ghost use Rattle.tp_spec.specs.declared.event.Event.{Event as AnEvent};
@@ -25,8 +25,8 @@ pub(crate) fn reserve_event(history: &mut Vec<Event>) -> Result<(), NoMemory>
 
 impl<'p> MachineRun<'p> {
     /// A turn of an actor begins with a reading of the clock, in ticks; then it settles: the best
-    /// node is dropped while it is dead, and where no node is left the search is exhausted. Where
-    /// memory is refused the events so far stand.
+    /// node is dropped while it is dead, what is due of it is committed, and where no node is left
+    /// the search is exhausted. Where memory is refused the events so far stand.
     pub fn begin(&mut self, actor: u32, reading: u64) -> Result<(), NoMemory>
         requires rested { IsRested self.old }
         ensures task { SameTask self.old self.new }
@@ -65,19 +65,18 @@ impl<'p> MachineRun<'p> {
         Ok(())
     }
 
-    /// Drops the best node, whose deadline has passed.
-    fn drop_best(&mut self, best: Standing) -> Result<(), NoMemory>
+    /// Drops the best node, whose word is dead.
+    fn drop_best(&mut self, id: u32) -> Result<(), NoMemory>
         requires standing { has_outcome self.old.history ≡ false }
         requires turn { IsSome (state self.old).turn }
-        requires best { GivesLeast self.old.frontier.nodes (Some best) }
-        requires late { best.deadline < (state self.old).now }
-        ensures ok { OnOk result (Writes self.old self.new (AnEvent.Drop best.id)) }
-        ensures fewer { OnOk result
-            (length self.new.frontier.nodes < length self.old.frontier.nodes) }
+        requires best { LeastIs self.old.frontier.nodes id }
+        requires dead { IsDead self.old id }
+        ensures ok { OnOk result (Writes self.old self.new (AnEvent.Drop id)) }
+        ensures fewer { OnOk result (unsettled self.new < unsettled self.old) }
         ensures err { OnErr result (self.new ≡ self.old) }
     {
         reserve_event(&mut self.history)?;
-        self.history.push_reserved(Event::Drop { id: best.id });
+        self.history.push_reserved(Event::Drop { id });
         self.frontier.drop_best();
         Ok(())
     }
@@ -95,18 +94,34 @@ impl<'p> MachineRun<'p> {
                 self.exhaust()?;
                 Ok(false)
             }
-            Some(best) => {
-                if best.deadline >= self.clock {
-                    return Ok(false);
-                }
-                self.drop_best(best)?;
+            Some(best) => self.settle_best(best),
+        }
+    }
+
+    /// The best node is dropped while it is dead; else the act that is due of it is committed.
+    fn settle_best(&mut self, best: Standing) -> Result<bool, NoMemory>
+        requires standing { has_outcome self.old.history ≡ false }
+        requires turn { IsSome (state self.old).turn }
+        requires best { GivesLeast self.old.frontier.nodes (Some best) }
+        ensures settles { SettlesOn self.old self.new }
+        ensures ok { IfOk result (StepsOn self.old self.new) }
+        ensures err { OnErr result (has_outcome self.new.history ≡ false) }
+    {
+        let Some(deadline) = self.live_deadline(best)? else {
+            self.drop_best(best.id)?;
+            return Ok(true);
+        };
+        match self.due_act(best.id, deadline)? {
+            None => Ok(false),
+            Some(act) => {
+                self.dispatch(act)?;
                 Ok(true)
             }
         }
     }
 
-    /// Settles: the best node is dropped while it is dead, and where no node is left the search is
-    /// exhausted.
+    /// Settles: the best node is dropped while it is dead, what is due of it is committed, and
+    /// where no node is left the search is exhausted.
     pub(crate) fn settle(&mut self) -> Result<(), NoMemory>
         requires standing { has_outcome self.old.history ≡ false }
         requires turn { IsSome (state self.old).turn }

@@ -6,16 +6,19 @@ use Rattle.tp_spec.specs.declared.event.Event.{Event}
 use Rattle.tp_spec.specs.declared.event.Event.TheVariants.{Tick, Drop, Dispatch, Take, Expand, Publish, Limit, Exhaust, Halt}
 use Rattle.tp_spec.specs.declared.plan.Limits.{Limits}
 use Rattle.tp_spec.specs.declared.plan.Mark.{Mark}
+use Rattle.tp_spec.specs.declared.plan.Timed.{Timed}
 use Rattle.tp_spec.specs.declared.problem.Problem.{Problem}
 use Rattle.tp_spec.specs.Lists.{IsIn, each_pair}
 use Rattle.tp_spec.specs.Schedules.{Live}
 use Rattle.tp_spec.specs.Machine.{Machine, Node, first, step, end_of, state_of, AreLegal, Legal, IsRun, TakeIsLegal, is_open, taken_by, without, children, word_of}
-use Rattle.tp_laws.proofs.EarlyCover.{FrontsLive}
 use Rattle.tp_laws.proofs.EarlyLists.{each-in, each-true}
 use Rattle.open_tree.specs.Views.{JobView}
 use Rattle.open_tree.specs.Jobs.{IsJobOf}
-use Rattle.tp_laws.specs.Histories.{IsTree, is_below}
-use Rattle.tp_laws.proofs.Runs.{end-append, legal-parts, tree-run, tree-first, differ, in-filter, in-append, in-map, in-children, taken-id}
+use Rattle.run_laws.specs.Commitments.{CommitsGrow}
+use Rattle.run_laws.specs.Histories.{IsTree, RunsLeadToTrees, is_below}
+use Rattle.tp_laws.specs.Clocks.{StartFrom}
+use Rattle.tp_laws.proofs.Members.{in-filter, in-append, in-map}
+use Rattle.run_laws.proofs.Runs.{end-append, legal-parts, differ, in-children, taken-id}
 
 -- nodes of one id are one node
 
@@ -126,16 +129,20 @@ later-run l m (Halt cause ∷ es) = later-run l (step l m (Halt cause)) es
 pub record JobStands (p : Problem) (l : Limits) (history : List Event) (actor : ℕ) (job : JobView) : Type 0 where
   pub held : IsHeld (state_of l history) actor job.id job.node.word
   pub clock : job.clock ≤ (state_of l history).now
-  pub commits : job.commits ≡ []
+  pub more : List Timed
+  pub grown : (state_of l history).commits ≡ job.commits ++ more
+  pub from : StartFrom job.clock more
   pub live : Live p l 0 [] job.node.word
   pub short : length job.node.word ≤ job.id
 
-pub job-stands : (p : Problem) (l : Limits) → FrontsLive p l → (history : List Event) (actor : ℕ) (job : JobView) → IsRun p l history → IsJobOf l history actor job → JobStands p l history actor job
-job-stands p l fronts history actor job run j =
+pub job-stands : (p : Problem) (l : Limits) → RunsLeadToTrees p l → CommitsGrow p l → (history : List Event) (actor : ℕ) (job : JobView) → IsRun p l history → IsJobOf l history actor job → JobStands p l history actor job
+job-stands p l runs grow history actor job run j =
     let front : List Event = j.front ++ Take actor job.id ∷ [] in
     let m : Machine = state_of l front in
     let parts : AreLegal p l first front × AreLegal p l m j.rest = legal-parts p l first front j.rest (subst (AreLegal p l first) j.split run.legal) in
-    let t : IsTree p l m = tree-run p l fronts first front parts.0 (tree-first p l fronts) in
+    let t : IsTree p l m = runs front (record { legal = parts.0 }) in
+    let whole : IsRun p l (front ++ j.rest) = record { legal = subst (AreLegal p l first) j.split run.legal } in
+    let g = grow front j.rest whole in
     let given : j.node.id < m.made = ltb-true j.node.id m.made (each-in (λ n. is_below m.made n ≡ true) m.nodes j.node (each-true (is_below m.made) m.nodes t.below) j.taken.there) in
     let same : (n : Node) → IsIn n m.nodes → n.id ≡ job.id → n ≡ j.node = λ n i e. same-node n j.node m.nodes t.told_apart i j.taken.there (e ∙ sym j.taken.named) in
     let held : IsHeld m actor job.id job.node.word = record {
@@ -147,7 +154,9 @@ job-stands p l fronts history actor job run j =
     record {
       held = subst (λ s. IsHeld s actor job.id job.node.word) ends (held-run p l actor job.id job.node.word m j.rest parts.1 held);
       clock = subst (λ k. job.clock ≤ k) (ap (λ (s : Machine). s.now) ends) (subst (λ k. k ≤ (end_of l m j.rest).now) (sym j.clock) (later-run l m j.rest));
-      commits = j.commits ∙ t.free;
+      more = g.0;
+      grown = ap (λ h. (state_of l h).commits) j.split ∙ g.1 ∙ ap (λ cs. cs ++ g.0) (sym j.commits);
+      from = subst (λ k. StartFrom k g.0) (sym j.clock) g.2;
       live = subst (λ w. Live p l 0 [] w) (sym j.word) (t.live j.node j.taken.there);
       short = subst (λ k. length job.node.word ≤ k) j.taken.named (subst (λ (w : List Mark). length w ≤ j.node.id) (sym j.word) (t.short j.node j.taken.there));
     }

@@ -1,16 +1,14 @@
 -- How a turn and a halt keep what a tree keeps.
-use Rattle.std.proofs.Common.{◌≡◌, refl, sym, ap, subst, ◌∙◌, ℕ, Bool, true, false, List, [], ◌∷◌, ◌++◌, length, Option, IfSome}
+use Rattle.std.proofs.Common.{◌≡◌, refl, sym, ap, subst, ◌∙◌, ℕ, Bool, true, false, List, [], ◌∷◌, ◌++◌, Option, IfSome}
 use Rattle.std.proofs.lemmas.Bool.{false≢true}
 use Rattle.tp_spec.specs.declared.event.Event.{Event}
 use Rattle.tp_spec.specs.declared.event.Event.TheVariants.{Halt}
 use Rattle.tp_spec.specs.declared.event.Cause.{Cause}
 use Rattle.tp_spec.specs.declared.event.Cause.TheVariants.{Memory}
-use Rattle.tp_spec.specs.Machine.{IsSettled, readings, state_of}
+use Rattle.tp_spec.specs.Machine.{readings}
 use Rattle.tp_world.specs.Counts.{one_more}
 use Rattle.tp_world.specs.Readings.{reading_at}
-use Rattle.machine_run.specs.Deeds.{SameTask, HasStart}
-use Rattle.machine_run.specs.Turns.{Grows, has_outcome}
-use Rattle.machine_run.specs.Views.{RunView, state}
+use Rattle.machine_run.specs.Turns.{has_outcome}
 use Rattle.open_tree.specs.Turns.{IsTold, IsClocked}
 use Rattle.open_tree.specs.Keeps.{TreeParts, Keeps}
 use Rattle.open_tree.proofs.Turns.{outcome-behind}
@@ -69,15 +67,3 @@ keeps_stop cause none k scaled is = record {
 -- what a tree keeps says how its history and its clock belong together
 pub told_of : {rate scale b n first last : ℕ} {told now : Option (List ℕ)} {old : List Event} {spare : Bool} → Keeps (parts rate scale b n first last told now old spare) → IsTold b n first last told old
 told_of {spare = spare} k = record { spare = spare; counted = k.clocked.counted; latest = k.recent.latest; behind = k.recent.behind; next = k.clocked.next }
-
--- where a turn's events may be cut back to
-pub has-start : (old new : RunView) (start : ℕ) → has_outcome old.history ≡ false → IsSettled old.problem old.limits (state old) → SameTask old new → Grows old.history new.history
-    → length old.history ≡ start → HasStart new start
-has-start old new start none settled task more counted = record {
-  front = old.history;
-  rest = more.more;
-  grown = more.grown;
-  counted = counted;
-  standing = none;
-  settled = subst (λ q. IsSettled q new.limits (state_of new.limits old.history)) (sym task.problem) (subst (λ l. IsSettled old.problem l (state_of l old.history)) (sym task.limits) settled);
-}

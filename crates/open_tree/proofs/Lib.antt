@@ -5,3 +5,4 @@ pub mod Held
 pub mod Taking
 pub mod Offspring
 pub mod Merging
+pub mod Renewing

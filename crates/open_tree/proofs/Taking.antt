@@ -4,21 +4,14 @@ use Rattle.tp_spec.specs.declared.event.Event.TheVariants.{Take}
 use Rattle.tp_spec.specs.Machine.{Machine, IsTaken, rank, state_of}
 use Rattle.tp_spec.specs.Schedules.{Live}
 use Rattle.tp_laws.specs.Clocks.{IsDeadline}
-use Rattle.tp_laws.specs.Histories.{IsTree}
-use Rattle.tp_laws.proofs.Runs.{tree-of}
-use Rattle.tp_laws.proofs.WordLaws.{fronts-live}
 use Rattle.word_frontier.specs.Nodes.{NodeView}
 use Rattle.machine_run.specs.Deeds.{Takes, TookNode, SameTask}
-use Rattle.machine_run.specs.Frontiers.{Stands}
 use Rattle.machine_run.specs.Turns.{IsTurn}
 use Rattle.machine_run.specs.Views.{RunView, state}
 use Rattle.open_tree.specs.Views.{JobView}
 use Rattle.open_tree.specs.Answers.{GivesJob}
 use Rattle.open_tree.specs.Steps.{EndsTurn}
 use Rattle.open_tree.proofs.Turns.{turn-settles, turn-deed, readings-turn}
-
-pub tree-at : (r : RunView) → Stands r → IsTree r.problem r.limits (state r)
-tree-at r s = tree-of r.problem r.limits (fronts-live r.problem r.limits s.formed) r.history s.run
 
 module _ (old mid new : RunView) (actor reading : ℕ) (id : ℕ) (v : NodeView)
     (turn : IsTurn old.history mid.history actor reading None) (takes : Takes mid new actor id v) where
@@ -30,23 +23,22 @@ module _ (old mid new : RunView) (actor reading : ℕ) (id : ℕ) (v : NodeView)
   pub take-ends : EndsTurn old new reading
   take-ends = record { read = readings-turn refl whole-turn; settled = takes.rested.settled }
 
-  pub gives-job : (job : JobView) → SameTask old new → Stands new → job.problem ≡ new.problem → job.limits ≡ new.limits → job.id ≡ id → job.node ≡ v → job.clock ≡ (state new).now → job.commits ≡ []
+  pub gives-job : (job : JobView) → SameTask old new → job.problem ≡ new.problem → job.limits ≡ new.limits → job.id ≡ id → job.node ≡ v → job.clock ≡ (state new).now → job.commits ≡ (state new).commits
       → GivesJob old.problem old.limits old.history new.history actor reading job
-  gives-job job task stands problem limits named is clock commits =
-      let t : IsTree new.problem new.limits (state new) = tree-at new stands in
+  gives-job job task problem limits named is clock commits =
       let n : TookNode new actor id v = takes.node in
       let here : state new ≡ state_of old.limits (takes.events.middle ++ Take actor job.id ∷ []) =
       (λ i. state_of (task.limits i) (takes.events.took i)) ∙ ap (λ k. state_of old.limits (takes.events.middle ++ Take actor k ∷ [])) (sym named) in
-      let free : (state new).commits ≡ job.commits = t.free ∙ sym commits in
+      let same : (state new).commits ≡ job.commits = sym commits in
       let live : Live old.problem old.limits job.clock job.commits job.node.word =
       subst (λ (w : NodeView). Live old.problem old.limits job.clock job.commits w.word) (sym is)
-      (subst (λ cs. Live old.problem old.limits job.clock cs v.word) free
+      (subst (λ cs. Live old.problem old.limits job.clock cs v.word) same
       (subst (λ k. Live old.problem old.limits k (state new).commits v.word) (sym clock)
       (subst (λ k. Live old.problem k (state new).now (state new).commits v.word) task.limits
       (subst (λ q. Live q new.limits (state new).now (state new).commits v.word) task.problem n.live)))) in
       let timely : IsDeadline old.problem old.limits job.commits job.node.word job.node.deadline =
       subst (λ (w : NodeView). IsDeadline old.problem old.limits job.commits w.word w.deadline) (sym is)
-      (subst (λ cs. IsDeadline old.problem old.limits cs v.word v.deadline) free
+      (subst (λ cs. IsDeadline old.problem old.limits cs v.word v.deadline) same
       (subst (λ k. IsDeadline old.problem k (state new).commits v.word v.deadline) task.limits
       (subst (λ q. IsDeadline q new.limits (state new).commits v.word v.deadline) task.problem n.timely))) in
       record {
@@ -62,7 +54,7 @@ module _ (old mid new : RunView) (actor reading : ℕ) (id : ℕ) (v : NodeView)
           taken = subst (λ k. IsTaken (state_of old.limits (takes.events.middle ++ Take actor job.id ∷ [])) actor k n.node) (sym named) (subst (λ m. IsTaken m actor id n.node) here n.taken);
           word = ap (λ (w : NodeView). w.word) is ∙ n.word;
           clock = clock ∙ ap (λ (m : Machine). m.now) here;
-          commits = sym free ∙ ap (λ (m : Machine). m.commits) here;
+          commits = commits ∙ ap (λ (m : Machine). m.commits) here;
         };
         live = live;
         ranked = ap (λ (w : NodeView). w.rank) is ∙ n.ranked ∙ ap (λ q. rank q v.word) task.problem ∙ ap (λ (w : NodeView). rank old.problem w.word) (sym is);

@@ -1,6 +1,6 @@
 -- The answers of a tree's turns. They tell what stands behind a turn, whose form is a Tick,
 -- settling, at most one deed, and settling again.
-use Rattle.std.specs.Prelude.{◌≡◌, ◌⊎◌, ℕ, true, false, not, ◌==◌, List, [], Option, Some, None, IsTrue}
+use Rattle.std.specs.Prelude.{◌≡◌, ◌⊎◌, ℕ, true, false, not, ◌==◌, List, [], Option, Some, None, IsTrue, drop}
 use Rattle.std.specs.List.{list_any}
 use Rattle.tp_spec.specs.declared.event.Event.{Event}
 use Rattle.tp_spec.specs.declared.event.Event.TheVariants.{Take, Expand, Publish, Limit}
@@ -14,6 +14,7 @@ use Rattle.tp_laws.specs.Clocks.{IsDeadline}
 use Rattle.machine_run.specs.Turns.{IsTurn, has_outcome}
 use Rattle.open_tree.specs.Views.{JobView}
 use Rattle.open_tree.specs.Jobs.{IsJobOf}
+use Rattle.open_tree.specs.declared.job.Look.{Look}
 use Rattle.open_tree.specs.declared.job.Taken.{Taken}
 use Rattle.open_tree.specs.declared.job.Taken.TheVariants as taken
 use Rattle.open_tree.specs.declared.job.Merged.{Merged}
@@ -82,3 +83,11 @@ abbrev pub GivesMerged : Limits → List Event → List Event → ℕ → ℕ �
 GivesMerged l old new actor reading id merged.Done = IsExpanded old new actor reading id
 GivesMerged l old new actor reading id merged.Stale = IsStale l old new actor reading id
 GivesMerged l old new actor reading id merged.Over = EndsSearch old new actor reading id
+
+-- The turn has no deed. What it gives are the commitments behind it after the first ones, so many,
+-- and that it is over exactly where an outcome stands behind it.
+pub record GivesLook (l : Limits) (old new : List Event) (actor reading sent : ℕ) (look : Look) :
+    Type 0 where
+  pub turn : IsTurn old new actor reading None
+  pub acts : look.acts ≡ drop sent (state_of l new).commits
+  pub over : look.over ≡ has_outcome new

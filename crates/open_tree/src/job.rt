@@ -183,6 +183,14 @@ pub enum Taken<'p> {
     Over,
 }
 
+/// What a look gives: the commitments that the looker does not know yet, in order of dispatch, and
+/// whether an outcome stands.
+#[derive(Drop)]
+pub struct Look {
+    pub acts: List<Timed>,
+    pub over: bool,
+}
+
 /// What a merge gives: the node was expanded; it had left the frontier before a deed; or an outcome
 /// stands.
 #[derive(Clone, Copy, Debug, PartialEq, Eq)]

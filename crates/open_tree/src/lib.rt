@@ -2,8 +2,9 @@
 //! history.
 #![tactic(auto)]
 
+mod brood;
 mod job;
 mod tree;
 
-pub use job::{Job, Merged, Sprouts, Taken};
+pub use job::{Job, Look, Merged, Sprouts, Taken};
 pub use tree::Tree;

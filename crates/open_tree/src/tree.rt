@@ -1,29 +1,34 @@
-ghost use Rattle.std.specs.Prelude.{◌≡◌, ◌++◌, ◌∷◌, [], length, IfOk, IfErr, IfSome, IfNone, OnOk, OnErr, true, false};
+ghost use Rattle.std.specs.Prelude.{◌≡◌, ◌≤◌, ◌+◌, ◌++◌, ◌∷◌, [], drop, length, IfOk, IfErr, IfSome, IfNone, OnOk, OnErr, true, false, vec_capacity};
 ghost use Rattle.tp_world.specs.Counts.{one_more};
 ghost use Rattle.machine_run.specs.Deeds.{Holds, IsRested, SameTask};
 ghost use Rattle.machine_run.specs.Frontiers.{CoversAll};
 ghost use Rattle.machine_run.specs.Turns.{Grows, has_outcome};
-ghost use Rattle.open_tree.specs.Answers.{GivesTaken, GivesMerged};
+ghost use Rattle.machine_run.specs.Views.{state};
+ghost use Rattle.open_tree.specs.Answers.{GivesLook, GivesTaken, GivesMerged};
 ghost use Rattle.open_tree.specs.Charter.{SameCharter};
 ghost use Rattle.open_tree.specs.Jobs.{AreSprouts, IsJobOf};
-ghost use Rattle.open_tree.specs.Steps.{AreReady, EndsTurn, Finishes, HasNoPlan, IsPublication};
+ghost use Rattle.open_tree.specs.Steps.{AreBrood, AreReady, EndsTurn, Finishes, HasNoPlan, IsPublication};
 ghost use Rattle.open_tree.specs.Turns.{IsTold};
 ghost use Rattle.tp_spec.specs.Machine.{IsWholeRun, state_of};
 ghost use Rattle.word_frontier.specs.Nodes.{live_at};
-ghost use Rattle.word_network.specs.Conditions.{AreLimits};
+ghost use Rattle.word_network.specs.Conditions.{AreLimits, AreCommits};
 
-use crate::job::{Job, Merged, Sprouts, Taken};
+use crate::brood::renewed_children;
+use crate::job::{Job, Look, Merged, Sprouts, Taken};
+use commit_book::are_held;
 use machine_run::MachineRun;
+use run_laws::{commitments_of_runs, states_of_runs};
 use std::alloc::Global;
 use std::marker::Model;
 use std::snapshot::Snapshot;
-use tp_spec::{Cause, Event, Limits, List, NoMemory, Plan, Problem};
+use tp_spec::{Cause, Event, Limits, List, NoMemory, Plan, Problem, Timed};
 use tp_world::Clock;
 use word_frontier::Child;
 use word_network::earliest_plan;
 
 /// The tree of words that are tried on a problem, with the clock that each turn reads once and the
-/// history of all turns. The history is always a run of the situated machine that ends settled.
+/// history of all turns. The history is always a run of the situated machine that ends settled: an
+/// outcome stands, or the best node is live and none of its starts is due.
 #[derive(Drop)]
 pub struct Tree<'p, C: Clock> {
     alloc: Global,
@@ -104,9 +109,10 @@ impl<'p, C: Clock> Tree<'p, C> {
     }
 
     /// One turn in which an actor takes the least open node that is live, where there is one: dead
-    /// nodes that are the best, or come before it, are dropped. Over exactly where an outcome
-    /// stands at return, else nothing exactly where no node is open. Where memory is refused the
-    /// turn is one halt; the clock was read all the same.
+    /// nodes that are the best, or come before it, are dropped, and the best node's starts that are
+    /// due are dispatched. Over exactly where an outcome stands at return, else nothing exactly
+    /// where no node is open. Where memory is refused the turn is one halt, which takes back its
+    /// dispatches; the clock was read all the same.
     pub fn take(&mut self, actor: u32) -> Result<Taken<'p>, NoMemory>
         ensures whole { IsWholeRun self.new.problem self.new.limits self.new.history }
         ensures charter { SameCharter self.old self.new }
@@ -126,13 +132,14 @@ impl<'p, C: Clock> Tree<'p, C> {
         }
         let reading = self.clock.read();
         let start = self.run.history().len();
+        let held = self.run.commits().len();
         match take_turn(self.alloc, &mut self.run, actor, reading) {
             Ok(taken) => {
                 self.run.stands();
                 Ok(taken)
             }
             Err(NoMemory) => {
-                self.run.cut_back(start);
+                self.run.cut_back(start, held);
                 self.run.stands();
                 self.spare = true;
                 Err(NoMemory)
@@ -141,12 +148,14 @@ impl<'p, C: Clock> Tree<'p, C> {
     }
 
     /// One turn in which an actor hands in the sprouts of a job that it took. A node whose word may
-    /// be a whole plan's and is live now is published with its least schedule now, one whose live
-    /// children would give too many ids is the limit, every other one is expanded with the children
-    /// that are live now: none behind a dead word. Dead best nodes are dropped before and behind
-    /// it; where that leaves no node, the search is exhausted. Over exactly where an outcome stands
-    /// at return, else stale exactly where the node had left the frontier after the first settling.
-    /// Where memory is refused the turn is one halt, and the sprouts come back.
+    /// be a whole plan's, has each commitment and is live now is published with its least schedule
+    /// now, one whose live children would give too many ids is the limit, every other one is
+    /// expanded with the children that are live now under all commitments: none behind a dead word.
+    /// Dead best nodes are dropped and what is due is dispatched before and behind it; where that
+    /// leaves no node, the search is exhausted. Over exactly where an outcome stands at return,
+    /// else stale exactly where the node had left the frontier after the first settling. Where
+    /// memory is refused the turn is one halt, which takes back its dispatches, and the sprouts
+    /// come back.
     pub fn merge(
         &mut self,
         actor: u32,
@@ -175,16 +184,60 @@ impl<'p, C: Clock> Tree<'p, C> {
         }
         let reading = self.clock.read();
         let start = self.run.history().len();
+        let held = self.run.commits().len();
         match merge_turn(self.alloc, &mut self.run, actor, reading, &sprouts) {
             Ok(merged) => {
                 self.run.stands();
                 Ok(merged)
             }
             Err(NoMemory) => {
-                self.run.cut_back(start);
+                self.run.cut_back(start, held);
                 self.run.stands();
                 self.spare = true;
                 Err((NoMemory, sprouts))
+            }
+        }
+    }
+
+    /// One turn of an actor without a deed: dead best nodes are dropped, and what is due is
+    /// dispatched. Gives the commitments after the first `sent`, of which there are so many, and
+    /// whether an outcome stands at return; where one stood before there is no turn. Where memory
+    /// is refused the turn is one halt, which takes back its dispatches; where an outcome stood
+    /// before, nothing changes then either.
+    pub fn look(&mut self, actor: u32, sent: usize) -> Result<Look, NoMemory>
+        requires sent { sent ≤ length (state_of self.old.limits self.old.history).commits }
+        ensures whole { IsWholeRun self.new.problem self.new.limits self.new.history }
+        ensures charter { SameCharter self.old self.new }
+        ensures over { has_outcome self.old.history ≡ true → self.new ≡ self.old }
+        ensures told { has_outcome self.old.history ≡ true → IfOk result (λ look.
+            (look.acts ≡ drop sent (state_of self.old.limits self.old.history).commits)
+            × (look.over ≡ true)) }
+        ensures count { has_outcome self.old.history ≡ false
+            → C.count self.new.clock ≡ one_more (C.count self.old.clock) }
+        ensures looked { has_outcome self.old.history ≡ false
+            → IfOk result (GivesLook self.old.limits self.old.history self.new.history actor
+            (C.last self.new.clock) sent) }
+        ensures err { has_outcome self.old.history ≡ false → OnErr result
+            (self.new.history ≡ self.old.history ++ Event.Halt Cause.Memory ∷ []) }
+    {
+        if self.run.is_over() {
+            self.run.stands();
+            let acts = copy_of(self.alloc, &self.run.commits()[sent..])?;
+            return Ok(Look { acts, over: true });
+        }
+        let reading = self.clock.read();
+        let start = self.run.history().len();
+        let held = self.run.commits().len();
+        match look_turn(self.alloc, &mut self.run, actor, reading, sent) {
+            Ok(look) => {
+                self.run.stands();
+                Ok(look)
+            }
+            Err(NoMemory) => {
+                self.run.cut_back(start, held);
+                self.run.stands();
+                self.spare = true;
+                Err(NoMemory)
             }
         }
     }
@@ -219,6 +272,14 @@ impl<'p, C: Clock> Tree<'p, C> {
     {
         self.run.stands();
         self.run.history()
+    }
+
+    /// The commitments, in order of dispatch: those of the history's Dispatch events.
+    pub fn commits(&self) -> &[Timed]
+        ensures acts { result.now ≡ (state_of self.now.limits self.now.history).commits }
+        ensures committed { AreCommits self.now.problem result.now }
+    {
+        self.run.commits()
     }
 
     /// The limits.
@@ -276,8 +337,59 @@ fn take_turn<'p>(
         return Ok(Taken::Nothing);
     };
     run.stands();
-    let commits = List::new(alloc);
+    let commits = copy_of(alloc, run.commits())?;
     Ok(Taken::Job(Job::new(run.problem(), *run.limits(), id, node, run.now(), commits)))
+}
+
+/// A copy of acts.
+fn copy_of(alloc: Global, acts: &[Timed]) -> Result<List<Timed>, NoMemory>
+    ensures { IfOk result (λ copy. copy ≡ acts.now) }
+{
+    Ok(List::of(Vec::from_slice(alloc, acts)?))
+}
+
+/// The commitments after the first `sent`, in a list that has room for them.
+fn acts_after<'p>(run: &MachineRun<'p>, sent: usize, mut acts: Vec<Timed>) -> List<Timed>
+    requires sent { sent ≤ length (state run.now).commits }
+    requires empty { acts.items ≡ [] }
+    requires room { length (state run.now).commits ≤ sent + vec_capacity acts }
+    ensures { result ≡ drop sent (state run.now).commits }
+{
+    match acts.extend_from_slice(&run.commits()[sent..]) {
+        Ok(()) => List::of(acts),
+        Err(_) => unreachable!(),
+    }
+}
+
+/// A look's turn. Where memory is refused its events are to be cut back. The room for the
+/// commitments comes first: an outcome that stands is not cut back.
+fn look_turn<'p>(
+    alloc: Global,
+    run: &mut MachineRun<'p>,
+    actor: u32,
+    reading: u64,
+    sent: usize,
+) -> Result<Look, NoMemory>
+    requires rested { IsRested run.old }
+    requires sent { sent ≤ length (state run.old).commits }
+    ensures task { SameTask run.old run.new }
+    ensures more { Grows run.old.history run.new.history }
+    ensures looked { IfOk result (GivesLook run.old.limits run.old.history run.new.history actor
+        reading sent) }
+    ensures ended { OnOk result (EndsTurn run.old run.new reading) }
+    ensures err { OnErr result (has_outcome run.new.history ≡ false) }
+{
+    let most = run.limits().actions as usize;
+    let room = Vec::with_capacity(alloc, most.saturating_sub(sent))?;
+    run.begin(actor, reading)?;
+    run.stands();
+    states_of_runs();
+    commitments_of_runs();
+    let over = run.is_over();
+    Ok(Look {
+        acts: acts_after(run, sent, room),
+        over,
+    })
 }
 
 /// How many children are live at a clock.
@@ -290,8 +402,9 @@ fn count_live(children: &[Child], now: u64) -> usize
         .count()
 }
 
-/// The plan of the least schedule of a job's word, where that may be a whole plan's and is live at
-/// the run's clock. A whole word may be dead by now.
+/// The plan of the least schedule of a job's word, where that may be a whole plan's, has each
+/// commitment, and is live at the run's clock. A whole word may be dead by now, or lack a
+/// commitment that came since.
 fn plan_now<'p>(
     alloc: Global,
     run: &MachineRun<'p>,
@@ -306,22 +419,30 @@ fn plan_now<'p>(
         return Ok(None);
     }
     let word = sprouts.job().node().word();
-    earliest_plan(alloc, run.problem(), run.limits(), word, &[], run.now())
+    let problem = run.problem();
+    let commits = run.commits();
+    if !are_held(problem, word, commits) {
+        return Ok(None);
+    }
+    earliest_plan(alloc, problem, run.limits(), word, commits, run.now())
 }
 
-/// Puts the live children of a job's node in its place, where there may be so many ids, and ends
-/// the search there else.
-fn grow<'p>(run: &mut MachineRun<'p>, actor: u32, sprouts: &Sprouts<'p>) -> Result<Merged, NoMemory>
-    requires held { Holds run.old actor sprouts.now.job.id }
-    requires ready { AreReady run.old sprouts.now }
-    requires none { HasNoPlan run.old sprouts.now.job.id }
+/// Puts the live children of a node in its place, where there may be so many ids, and ends the
+/// search there else.
+fn grow<'p>(
+    run: &mut MachineRun<'p>,
+    actor: u32,
+    id: u32,
+    children: &[Child],
+) -> Result<Merged, NoMemory>
+    requires held { Holds run.old actor id }
+    requires brood { AreBrood run.old id children.now }
+    requires none { HasNoPlan run.old id }
     ensures task { SameTask run.old run.new }
     ensures more { Grows run.old.history run.new.history }
-    ensures done { IfOk result (Finishes run.old run.new actor sprouts.now.job.id) }
+    ensures done { IfOk result (Finishes run.old run.new actor id) }
     ensures err { OnErr result (has_outcome run.new.history ≡ false) }
 {
-    let id = sprouts.job().id();
-    let children = sprouts.children();
     let live = count_live(children, run.now());
     if (run.made() as usize).saturating_add(live) > run.limits().nodes as usize {
         run.limit(actor, id, children)?;
@@ -333,6 +454,30 @@ fn grow<'p>(run: &mut MachineRun<'p>, actor: u32, sprouts: &Sprouts<'p>) -> Resu
     } else {
         Ok(Merged::Done)
     }
+}
+
+/// Grows a job's node by its children under the run's commitments: those of the sprouts where
+/// nothing was committed since, else found anew.
+fn grow_job<'p>(
+    alloc: Global,
+    run: &mut MachineRun<'p>,
+    actor: u32,
+    sprouts: &Sprouts<'p>,
+) -> Result<Merged, NoMemory>
+    requires held { Holds run.old actor sprouts.now.job.id }
+    requires ready { AreReady run.old sprouts.now }
+    requires none { HasNoPlan run.old sprouts.now.job.id }
+    ensures task { SameTask run.old run.new }
+    ensures more { Grows run.old.history run.new.history }
+    ensures done { IfOk result (Finishes run.old run.new actor sprouts.now.job.id) }
+    ensures err { OnErr result (has_outcome run.new.history ≡ false) }
+{
+    let job = sprouts.job();
+    if run.commits().len() == job.commits().len() {
+        return grow(run, actor, job.id(), sprouts.children());
+    }
+    let children = renewed_children(alloc, run, sprouts)?;
+    grow(run, actor, job.id(), children.as_slice())
 }
 
 /// The deed on a job's node, which stands.
@@ -354,7 +499,7 @@ fn finish<'p>(
             run.publish(actor, sprouts.job().id(), plan)?;
             Ok(Merged::Over)
         }
-        None => grow(run, actor, sprouts),
+        None => grow_job(alloc, run, actor, sprouts),
     }
 }
 
@@ -383,6 +528,8 @@ fn merge_turn<'p>(
         return Ok(Merged::Over);
     }
     run.stands();
+    states_of_runs();
+    commitments_of_runs();
     if !run.is_taken(sprouts.job().id(), actor) {
         return Ok(Merged::Stale);
     }

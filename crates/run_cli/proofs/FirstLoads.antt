@@ -4,7 +4,7 @@ use Rattle.std.specs.Prelude.{IsErr, IsErrAnd, IfErr}
 use Rattle.tp_world.specs.Contents.{Contents, FilesView}
 use Rattle.tp_world.specs.Counts.{Rose}
 use Rattle.tp_world.specs.Loads.{Wanted, HoldsTooMany, AllHold, AsksFor, AreLoaded, StopsAt, AsksFront, load_of}
-use Rattle.tp_world.specs.Requests.{Request, Load}
+use Rattle.tp_world.specs.Requests.{Request}
 use Rattle.run_cli.specs.Stopping.{IsStopped, IsStop, too_long_line, failed_line}
 use Rattle.run_cli.specs.declared.loading.Stop.{Stop}
 use Rattle.run_cli.specs.declared.loading.Stop.TheVariants.{Said, NoMemory}
@@ -61,33 +61,44 @@ module _ (more files : List Wanted) (before after : FilesView) where
   stop-sooner (Said answer) (inr w) = inr (record { file = w.file; at = record { stops = stops-sooner w.at.stops; failed = w.at.failed }; status_is = w.status_is; line_is = w.line_is })
   stop-sooner NoMemory w = record { front = w.front; rest = w.rest ++ more; order = ap (λ (fs : List Wanted). fs ++ more) w.order ∙ append_assoc w.front w.rest more; asked = w.asked }
 
--- one file was loaded, and then the others were asked for
-module _ (first : Wanted) (text : List ℕ) (x y z : FilesView) (one : AreLoaded (first ∷ []) (text ∷ []) x y) (same : y.contents ≡ x.contents) where
-  longer : (files : List Wanted) → AsksFor files y z → AsksFor (first ∷ files) x z
+-- some files were loaded, and then others were asked for
+all-held : (contents : Contents) (files more : List Wanted) (texts others : List (List ℕ)) → AllHold contents files texts → AllHold contents more others → AllHold contents (files ++ more) (texts ++ others)
+all-held contents [] more [] others hold held = held
+all-held contents [] more (text ∷ texts) others hold held = absurd hold
+all-held contents (file ∷ files) more [] others hold held = absurd hold
+all-held contents (file ∷ files) more (text ∷ texts) others hold held = (hold.0, all-held contents files more texts others hold.1 held)
+
+loads-onto : (files more : List Wanted) → map load_of (files ++ more) ≡ map load_of files ++ map load_of more
+loads-onto [] more = refl
+loads-onto (file ∷ files) more = ap (λ (rs : List Request). load_of file ∷ rs) (loads-onto files more)
+
+module _ (first : List Wanted) (firsts : List (List ℕ)) (x y z : FilesView) (one : AreLoaded first firsts x y) (same : y.contents ≡ x.contents) where
+  longer : (files : List Wanted) → AsksFor files y z → AsksFor (first ++ files) x z
   longer files asked =
-      asked ∙ ap (λ (rs : List Request). rs ++ map load_of files) one.asked ∙ append_assoc x.requests (Load first.name ∷ []) (map load_of files)
+      asked ∙ ap (λ (rs : List Request). rs ++ map load_of files) one.asked ∙ append_assoc x.requests (map load_of first) (map load_of files)
+      ∙ ap (λ (rs : List Request). x.requests ++ rs) (sym (loads-onto first files))
 
-  all-hold : (files : List Wanted) (texts : List (List ℕ)) → AllHold y.contents files texts → AllHold x.contents (first ∷ files) (text ∷ texts)
-  all-hold files texts hold = (one.hold.0, subst (λ (c : Contents). AllHold c files texts) same hold)
+  all-hold : (files : List Wanted) (texts : List (List ℕ)) → AllHold y.contents files texts → AllHold x.contents (first ++ files) (firsts ++ texts)
+  all-hold files texts hold = all-held x.contents first files firsts texts one.hold (subst (λ (c : Contents). AllHold c files texts) same hold)
 
-  pub both-loaded : (files : List Wanted) (texts : List (List ℕ)) → AreLoaded files texts y z → AreLoaded (first ∷ files) (text ∷ texts) x z
+  pub both-loaded : (files : List Wanted) (texts : List (List ℕ)) → AreLoaded files texts y z → AreLoaded (first ++ files) (firsts ++ texts) x z
   both-loaded files texts two = record {
     hold = all-hold files texts two.hold;
     asked = longer files two.asked;
     unfailed = two.unfailed ∙ one.unfailed;
   }
 
-  stops-later : (files : List Wanted) (file : Wanted) → StopsAt files file y z → StopsAt (first ∷ files) file x z
+  stops-later : (files : List Wanted) (file : Wanted) → StopsAt files file y z → StopsAt (first ++ files) file x z
   stops-later files file s = record {
-    earlier = first ∷ s.earlier;
+    earlier = first ++ s.earlier;
     later = s.later;
-    order = ap (λ (fs : List Wanted). first ∷ fs) s.order;
-    texts = text ∷ s.texts;
+    order = ap (λ (fs : List Wanted). first ++ fs) s.order ∙ sym (append_assoc first s.earlier (file ∷ s.later));
+    texts = firsts ++ s.texts;
     hold = all-hold s.earlier s.texts s.hold;
-    asked = longer (s.earlier ++ file ∷ []) s.asked;
+    asked = subst (λ (fs : List Wanted). AsksFor fs x z) (sym (append_assoc first s.earlier (file ∷ []))) (longer (s.earlier ++ file ∷ []) s.asked);
   }
 
-  pub stop-later : (files : List Wanted) (s : Stop) → IsStop files y z s → IsStop (first ∷ files) x z s
+  pub stop-later : (files : List Wanted) (s : Stop) → IsStop files y z s → IsStop (first ++ files) x z s
   stop-later files (Said answer) (inl w) = inl (record {
     file = w.file;
     at = record {
@@ -107,7 +118,13 @@ module _ (first : Wanted) (text : List ℕ) (x y z : FilesView) (one : AreLoaded
     status_is = w.status_is;
     line_is = w.line_is;
   })
-  stop-later files NoMemory w = record { front = first ∷ w.front; rest = w.rest; order = ap (λ (fs : List Wanted). first ∷ fs) w.order; asked = longer w.front w.asked }
+  stop-later files NoMemory w =
+      record { front = first ++ w.front; rest = w.rest; order = ap (λ (fs : List Wanted). first ++ fs) w.order ∙ sym (append_assoc first w.front w.rest); asked = longer w.front w.asked }
+
+-- no further file
+pub alone-loaded : (files : List Wanted) (texts : List (List ℕ)) (x y : FilesView) → AreLoaded files texts x y → AreLoaded (files ++ []) (texts ++ []) x y
+alone-loaded files texts x y loaded =
+    subst (λ (fs : List Wanted). AreLoaded fs (texts ++ []) x y) (sym (append-nil files)) (subst (λ (ts : List (List ℕ)). AreLoaded files ts x y) (sym (append-nil texts)) loaded)
 
 -- what a `?` gives where it returns
 pub from-memory : {T : Type 0} (P : Stop → Type 0) (r : Result T Stop) → IsErr r × IsErrAnd r (λ s. s ≡ NoMemory) → P NoMemory → IfErr r P

@@ -1,6 +1,11 @@
+pub mod Ended
 pub mod Solved
+pub mod Played
 pub mod FirstLoads
+pub mod SourceReads
+pub mod Sourced
 pub mod Stopping
+pub mod Scripted
 pub mod Outcomes
 pub mod Bounded
 pub mod Numerals

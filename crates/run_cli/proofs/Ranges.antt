@@ -1,19 +1,24 @@
--- The limits that words order are in range.
-use Rattle.std.proofs.Common.{◌≡◌, refl, subst, ℕ, ◌+◌, ◌≤◌, ◌^◌, Bool, true, false, cond, nat_lt, List, [], ◌∷◌, Option, Some, None, Result, Ok, Err, unwrap_or, length, arith}
+-- The limits and the scale that words order are in range.
+use Rattle.std.proofs.Common.{◌≡◌, refl, subst, ℕ, ◌+◌, ◌≤◌, ◌^◌, Bool, true, false, not, IsTrue, cond, nat_lt, List, [], ◌∷◌, Option, Some, None, Result, Ok, Err, unwrap_or, length, sym, arith}
 use Rattle.std.specs.Str.Parse.{digits_value}
 use Rattle.std.proofs.lemmas.Bool.{ltb-false}
+use Rattle.pddl_tokens.specs.Numbers.{IsScale}
 use Rattle.tp_spec.specs.declared.plan.Limits.{Limits}
 use Rattle.word_network.specs.Conditions.{AreLimits}
 use Rattle.run_cli.specs.declared.options.Command.{Command}
 use Rattle.run_cli.specs.declared.options.Command.TheVariants as commands
-use Rattle.run_cli.specs.declared.options.Setting.TheVariants.{Actions, Horizon, Nodes, PlanFile}
+use Rattle.run_cli.specs.declared.options.Numbers.{Numbers}
+use Rattle.run_cli.specs.declared.options.Setting.TheVariants.{Lead, Actions, Horizon, Nodes, Scale, Script, PlanFile}
 use Rattle.run_cli.specs.declared.words.Order.{Order}
-use Rattle.run_cli.specs.declared.words.Order.TheVariants.{Solve, Validate, Help}
+use Rattle.run_cli.specs.declared.words.Order.TheVariants.{Solve, Simulate, Validate, Ground, Help}
+use Rattle.run_cli.specs.declared.words.Source.{Source}
+use Rattle.run_cli.specs.declared.words.Source.TheVariants.{GroundText, Pddl}
 use Rattle.run_cli.specs.declared.words.WordFault.{WordFault}
 use Rattle.run_cli.specs.declared.words.WordFault.TheVariants.{FileCount}
 use Rattle.run_cli.specs.Arguments.{Argument, arguments_of}
-use Rattle.run_cli.specs.Options.{is_number, within, command_named, options_of, takes}
-use Rattle.run_cli.specs.Orders.{number_or, limits_of, order_from, judged, faults_from, files_of, first_name, value_of, whole_order, commanded, order_of}
+use Rattle.run_cli.specs.Options.{is_number, is_scale, within, among, command_named, options_of, takes}
+use Rattle.run_cli.specs.Orders.{number_or, number_of, limits_of, source_from, order_with, with_source, is_help, order_from, judged, faults_from, files_of, first_name, second_name, value_of, is_given, whole_order, commanded, order_of}
+use Rattle.run_cli.specs.Sources.{IsScaled}
 
 within-most : (low high n default : ℕ) → default ≤ high → unwrap_or (within low high n) default ≤ high
 within-most low high n default le = by_low (nat_lt n low) where
@@ -25,7 +30,7 @@ within-most low high n default le = by_low (nat_lt n low) where
   by_low true = le
   by_low false = by_high (nat_lt high n) refl
 
-number-most : (low high default : ℕ) (value : Option (List ℕ)) → default ≤ high → number_or (record { least = low; most = high; default = default }) value ≤ high
+number-most : (low high default : ℕ) (value : Option (List ℕ)) → default ≤ high → number_or (record { least = low; most = high; default = default; scales = false }) value ≤ high
 number-most low high default None le = le
 number-most low high default (Some text) le = by_test (is_number text) where
   by_test : (b : Bool) → unwrap_or (cond b (within low high (digits_value 10 text)) None) default ≤ high
@@ -36,24 +41,67 @@ limits-are : (arguments : List Argument) → AreLimits (limits_of arguments)
 limits-are arguments = record {
   actions = number-most 1 64 64 (value_of arguments Actions) (omega arith);
   horizon = number-most 1 (2 ^ 40) (2 ^ 40) (value_of arguments Horizon) (omega arith);
-  lead = omega arith;
+  lead = number-most 0 1000 0 (value_of arguments Lead) (omega arith);
   nodes = number-most 1 200000 50000 (value_of arguments Nodes) (omega arith);
 }
 
--- the limits of an order
+-- a number that counts as a scale is one; so is the default
+number-scale : (value : Option (List ℕ)) → IsScale (number_or (record { least = 1; most = 1000; default = 1; scales = true }) value)
+number-scale None = refl
+number-scale (Some text) = by_test (is_number text) where
+  n : ℕ
+  n = digits_value 10 text
+
+  by_low : (b c : Bool) → IsScale n → IsScale (unwrap_or (cond b None (cond c None (Some n))) 1)
+  by_low true c is = refl
+  by_low false true is = refl
+  by_low false false is = is
+
+  by_scale : (b : Bool) → is_scale n ≡ b → IsScale (unwrap_or (cond (not b) None (within 1 1000 n)) 1)
+  by_scale true is = by_low (nat_lt n 1) (nat_lt 1000 n) is
+  by_scale false is = refl
+
+  by_test : (b : Bool) → IsScale (unwrap_or (cond b (among (record { least = 1; most = 1000; default = 1; scales = true }) n) None) 1)
+  by_test true = by_scale (is_scale n) refl
+  by_test false = refl
+
+scale-is : (arguments : List Argument) → IsScale (number_of arguments Scale)
+scale-is arguments = number-scale (value_of arguments Scale)
+
+-- the limits and the scale of an order
 abbrev Orders : Result Order WordFault → Type 0
-Orders (Ok (Solve ground limits)) = AreLimits limits
-Orders (Ok (Validate ground plan limits)) = AreLimits limits
+Orders (Ok (Solve source limits)) = AreLimits limits × IsScaled source
+Orders (Ok (Simulate source script limits)) = AreLimits limits × IsScaled source
+Orders (Ok (Validate source plan limits)) = IsScaled source
+Orders (Ok (Ground domain problem scale)) = IsScale scale
 Orders (Ok Help) = Unit {0}
 Orders (Err fault) = Unit {0}
 
-from-orders : (command : Command) (count : ℕ) (file plan : Option (List ℕ)) (limits : Limits) → AreLimits limits → Orders (order_from command count file plan limits)
-from-orders commands.Help count file plan limits are = tt
-from-orders commands.Solve count None plan limits are = tt
-from-orders commands.Validate count None plan limits are = tt
-from-orders commands.Solve count (Some file) plan limits are = are
-from-orders commands.Validate count (Some file) None limits are = tt
-from-orders commands.Validate count (Some file) (Some plan) limits are = are
+with-orders : (command : Command) (count : ℕ) (script plan : Option (List ℕ)) (limits : Limits) (source : Source) → AreLimits limits → IsScaled source
+    → Orders (order_with command count script plan limits source)
+with-orders commands.Solve count script plan limits source are is = (are, is)
+with-orders commands.Simulate count None plan limits source are is = tt
+with-orders commands.Simulate count (Some script) plan limits source are is = (are, is)
+with-orders commands.Validate count script None limits source are is = tt
+with-orders commands.Validate count script (Some plan) limits source are is = is
+with-orders commands.Ground count script plan limits (GroundText name) are is = tt
+with-orders commands.Ground count script plan limits (Pddl domain problem scale) are is = is
+with-orders commands.Help count script plan limits source are is = tt
+
+source-orders : (command : Command) (count : ℕ) (script plan : Option (List ℕ)) (limits : Limits) → AreLimits limits → (first second : Option (List ℕ)) (scaled : Bool) (scale : ℕ) → IsScale scale
+    → Orders (with_source (order_with command count script plan limits) (source_from count first second scaled scale))
+source-orders command count script plan limits are None second scaled scale is = tt
+source-orders command count script plan limits are (Some name) None true scale is = tt
+source-orders command count script plan limits are (Some name) None false scale is = with-orders command count script plan limits (GroundText name) are tt
+source-orders command count script plan limits are (Some domain) (Some problem) scaled scale is = with-orders command count script plan limits (Pddl domain problem scale) are is
+
+from-orders : (command : Command) (count : ℕ) (arguments : List Argument) → Orders (order_from command count arguments)
+from-orders command count arguments = by_help (is_help command) where
+  by_help : (b : Bool) → Orders (cond b (Ok Help) (with_source (order_with command count (value_of arguments Script) (value_of arguments PlanFile) (limits_of arguments))
+      (source_from count (first_name (files_of arguments)) (second_name (files_of arguments)) (is_given arguments Scale) (number_of arguments Scale))))
+  by_help true = tt
+  by_help false = source-orders command count (value_of arguments Script) (value_of arguments PlanFile) (limits_of arguments) (limits-are arguments)
+      (first_name (files_of arguments)) (second_name (files_of arguments)) (is_given arguments Scale) (number_of arguments Scale) (scale-is arguments)
 
 judged-orders : (order : Result Order WordFault) (faults : List WordFault) → Orders order → Orders (judged order faults)
 judged-orders order [] are = are
@@ -61,11 +109,8 @@ judged-orders order (fault ∷ rest) are = tt
 
 whole-orders : (command : Command) (count : ℕ) (arguments : List Argument) → Orders (whole_order command count arguments)
 whole-orders command count arguments = by_count (takes command (length (files_of arguments))) where
-  order : Result Order WordFault
-  order = order_from command count (first_name (files_of arguments)) (value_of arguments PlanFile) (limits_of arguments)
-
-  by_count : (b : Bool) → Orders (cond b order (Err (FileCount count)))
-  by_count true = from-orders command count (first_name (files_of arguments)) (value_of arguments PlanFile) (limits_of arguments) (limits-are arguments)
+  by_count : (b : Bool) → Orders (cond b (order_from command count arguments) (Err (FileCount count)))
+  by_count true = from-orders command count arguments
   by_count false = tt
 
 words-order : (command : Option Command) (rest : List (List ℕ)) → Orders (commanded command rest)
@@ -79,6 +124,15 @@ orders : (words : List (List ℕ)) → Orders (order_of words)
 orders [] = tt
 orders (word ∷ rest) = words-order (command_named word) rest
 
--- what words order has limits in range
-pub solve-limits : (words : List (List ℕ)) (ground : List ℕ) (limits : Limits) → order_of words ≡ Ok (Solve ground limits) → AreLimits limits
-solve-limits words ground limits is = subst Orders is (orders words)
+-- what words order has limits and a scale in range
+pub solve-range : (words : List (List ℕ)) (source : Source) (limits : Limits) → order_of words ≡ Ok (Solve source limits) → AreLimits limits × IsScaled source
+solve-range words source limits is = subst Orders is (orders words)
+
+pub simulate-range : (words : List (List ℕ)) (source : Source) (script : List ℕ) (limits : Limits) → order_of words ≡ Ok (Simulate source script limits) → AreLimits limits × IsScaled source
+simulate-range words source script limits is = subst Orders is (orders words)
+
+pub validate-range : (words : List (List ℕ)) (source : Source) (plan : List ℕ) (limits : Limits) → order_of words ≡ Ok (Validate source plan limits) → IsScaled source
+validate-range words source plan limits is = subst Orders is (orders words)
+
+pub ground-range : (words : List (List ℕ)) (domain problem : List ℕ) (scale : ℕ) → order_of words ≡ Ok (Ground domain problem scale) → IsScale scale
+ground-range words domain problem scale is = subst Orders is (orders words)

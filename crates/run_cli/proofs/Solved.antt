@@ -1,73 +1,68 @@
 -- What stands at the end of a search.
-use Rattle.std.proofs.Common.{◌≡◌, ◌⊎◌, refl, sym, ap, subst, ◌∙◌, ℕ, ◌<◌, inl, inr, Option, Some, None, IfSome, false, List, [], ◌∷◌, ◌++◌, fold, length, length-append, arith}
+use Rattle.std.proofs.Common.{◌≡◌, ◌⊎◌, refl, sym, ap, subst, ◌∙◌, ℕ, ◌<◌, inl, inr, Option, Some, None, IfSome, true, false, List, [], ◌∷◌, ◌++◌, fold, length, length-append, arith}
+use Rattle.std.specs.Prelude.{Result, Ok, Err}
 use Rattle.std.specs.List.{flat_map}
 use Rattle.std.proofs.lemmas.Bool.{false≢true}
 use Rattle.std.proofs.lemmas.List.Sums.{fold-append}
-use Rattle.tp_spec.specs.declared.event.Cause.TheVariants.{Memory}
+use Rattle.tp_spec.specs.declared.event.Cause.TheVariants.{Out, Memory}
 use Rattle.tp_spec.specs.declared.event.Event.{Event}
 use Rattle.tp_spec.specs.declared.event.Event.TheVariants.{Tick, Drop, Dispatch, Take, Expand, Publish, Limit, Exhaust, Halt}
 use Rattle.tp_spec.specs.declared.plan.Limits.{Limits}
+use Rattle.tp_spec.specs.declared.plan.Timed.{Timed}
 use Rattle.tp_spec.specs.declared.problem.Problem.{Problem}
 use Rattle.tp_spec.specs.Following.{IsBusy}
-use Rattle.tp_spec.specs.Machine.{Machine, step, first, AreLegal, IsRun, IsWholeRun}
-use Rattle.tp_spec.specs.Texts.{command_of, out_text, result_text}
+use Rattle.tp_spec.specs.Machine.{IsRun, IsWholeRun}
+use Rattle.tp_spec.specs.Texts.{command_of}
 use Rattle.tp_world.specs.Counts.{count_after}
 use Rattle.tp_world.specs.Readings.{AreNext}
 use Rattle.open_tree.specs.Charter.{SameCharter}
 use Rattle.open_tree.specs.Turns.{IsTold}
 use Rattle.open_tree.specs.Views.{TreeView}
-use Rattle.search_workers.specs.OneWorker.{HasSearched}
+use Rattle.tp_world.specs.Counts.{Rose}
 use Rattle.tp_world.specs.Sinks.{SinkView}
 use Rattle.tp_world.specs.Views.{ClockView}
-use Rattle.run_cli.specs.Outcomes.{status_of, EndsAs, HasNoResult, HasStopped, PrintsResult}
-use Rattle.run_cli.specs.Printing.{Prints, PrintsNothing}
+use Rattle.tp_world.specs.declared.sink.SendFault.{SendFault}
+use Rattle.tp_world.specs.declared.sink.SendFault.TheVariants.{Failed, NoMemory}
+use Rattle.dispatcher.specs.Sending.{commands}
+use Rattle.run_laws.specs.Commitments.{CommitsGrow}
+use Rattle.serial_runs.specs.Commands.{committed, GivesCommands, PutsAll, PutsUntil, PutsSome}
+use Rattle.serial_runs.specs.Endings.{is_result, Ends, HasResult, IsHaltedBy}
+use Rattle.run_cli.specs.Outcomes.{is_end, status_of, EndsAs, GivesEnd, PrintsFront, PutsEnd, WithholdsEnd}
+use Rattle.run_cli.proofs.Ended.{appends-none, prints-commands, prints-front, prints-none, prints-some, prints-whole}
 use Rattle.run_cli.specs.Runs.{EndingView, HasReadings, IsBegun}
 use Rattle.run_cli.specs.Solving.{EndsSearch}
 
--- the status that the last of these events gives
-abbrev last_status : List Event → ℕ
-last_status h = fold (λ s e. status_of e) 7 h
+-- a result ends a run, with a status below 3
+result-ends : (e : Event) → is_result e ≡ true → status_of e < 3
+result-ends (Tick actor reading) r = absurd (false≢true r)
+result-ends (Drop id) r = absurd (false≢true r)
+result-ends (Dispatch act) r = absurd (false≢true r)
+result-ends (Take actor id) r = absurd (false≢true r)
+result-ends (Expand actor id marks) r = absurd (false≢true r)
+result-ends (Publish actor id plan) r = omega arith
+result-ends (Limit actor id made marks) r = omega arith
+result-ends Exhaust r = omega arith
+result-ends (Halt cause) r = absurd (false≢true r)
 
-last_gives : (front : List Event) (e : Event) → last_status (front ++ e ∷ []) ≡ status_of e
-last_gives front e = fold-append (λ s x. status_of x) 7 front (e ∷ [])
+-- two last events are one
+abbrev last_of : Event → List Event → Event
+last_of first h = fold (λ earlier e. e) first h
 
--- a search that ends with a result was not halted
-pub busy-of : (l : Limits) (h : List Event) (status : ℕ) → HasSearched l h → EndsAs h status → status < 3 → IsBusy l 1 h
-busy-of l h status s ends below = elim s.stopped [
-  | inr (result, busy) ↦ busy
-  | inl halted ↦
-      let is : status ≡ 7 = ends.gives ∙ sym (last_gives ends.front ends.last) ∙ sym (ap last_status ends.is) ∙ ap last_status halted.is ∙ last_gives halted.front (Halt Memory) in
-      absurd (omega (arith, is, below))
-]
+last-is : (first : Event) (front : List Event) (e : Event) → last_of first (front ++ e ∷ []) ≡ e
+last-is first front e = fold-append (λ earlier x. x) first front (e ∷ [])
 
-pub stopped-of : (l : Limits) (h : List Event) → HasSearched l h → HasStopped h
-stopped-of l h s = elim s.stopped [
-  | inl halted ↦ inl halted
-  | inr (result, busy) ↦ inr result
-]
+pub one-last : (h front other : List Event) (e f : Event) → h ≡ front ++ e ∷ [] → h ≡ other ++ f ∷ [] → e ≡ f
+one-last h front other e f is also = sym (last-is e front e) ∙ ap (last_of e) (sym is ∙ also) ∙ last-is e other f
 
--- where the last event is no result none is
-pub no-result : (h : List Event) (status : ℕ) → EndsAs h status → status ≡ 7 → HasNoResult h
-no-result h status ends seven front last is = sym (last_gives front last) ∙ sym (ap last_status is) ∙ ap last_status ends.is ∙ last_gives ends.front ends.last ∙ sym ends.gives ∙ seven
+-- a history that ends with a result, or was halted for want of memory, and has a printed end
+pub result-of : (h : List Event) (status : ℕ) → EndsAs h status → Ends h (Ok tt) → HasResult h
+result-of h status ends (inl result) = result
+result-of h status ends (inr halted) = absurd (false≢true (sym (ap is_end (one-last h ends.front halted.front ends.last (Halt Memory) ends.is halted.is)) ∙ ends.ended))
 
-pub none-of-none : (h : List Event) → length h ≡ 0 → HasNoResult h
-none-of-none h none front last is = absurd (omega (arith, none, ap length is, length-append front (last ∷ [])))
-
--- while nothing is dispatched, no command is printed
-no-commands : (p : Problem) (l : Limits) (m : Machine) (h : List Event) → AreLegal p l m h → flat_map (command_of p) h ≡ []
-no-commands p l m [] legal = refl
-no-commands p l m (Tick actor reading ∷ h) legal = no-commands p l (step l m (Tick actor reading)) h legal.1
-no-commands p l m (Drop id ∷ h) legal = no-commands p l (step l m (Drop id)) h legal.1
-no-commands p l m (Dispatch act ∷ h) legal = absurd (false≢true legal.0.built)
-no-commands p l m (Take actor id ∷ h) legal = no-commands p l (step l m (Take actor id)) h legal.1
-no-commands p l m (Expand actor id marks ∷ h) legal = no-commands p l (step l m (Expand actor id marks)) h legal.1
-no-commands p l m (Publish actor id plan ∷ h) legal = no-commands p l (step l m (Publish actor id plan)) h legal.1
-no-commands p l m (Limit actor id made marks ∷ h) legal = no-commands p l (step l m (Limit actor id made marks)) h legal.1
-no-commands p l m (Exhaust ∷ h) legal = no-commands p l (step l m Exhaust) h legal.1
-no-commands p l m (Halt cause ∷ h) legal = no-commands p l (step l m (Halt cause)) h legal.1
-
-pub prints-result : (p : Problem) (l : Limits) (h : List Event) → IsRun p l h → result_text p h ≡ out_text p h
-prints-result p l h run = ap (λ commands. commands ++ result_text p h) (sym (no-commands p l first h run.legal))
+pub below-of : (h : List Event) (status : ℕ) → EndsAs h status → HasResult h → status < 3
+below-of h status ends r =
+    let same : ends.last ≡ r.last = one-last h ends.front r.front ends.last r.last ends.is r.is in
+    omega (arith, ends.gives ∙ ap status_of same, result-ends r.last r.result)
 
 -- where the clock was not read and the history is empty
 pub told-unread : (count count' last last' : ℕ) (given : Option (List ℕ)) (h : List Event) → count' ≡ count → last' ≡ last → h ≡ [] → IsTold count count' last last' given h
@@ -97,24 +92,32 @@ module _ {C : Type 0} (count last rate : C → ℕ) (given : C → Option (List 
   module _ (x y : C) (counts : count y ≡ count x) (lasts : last y ≡ last x) (givens : given y ≡ given x)
       (begins : begun y ≡ begun x ++ p.scale ∷ []) (rates : rate y ≡ p.scale) where
     -- no tree was made
-    pub unmade : (before after : SinkView) (status : ℕ) (h : List Event) (z : C) → z ≡ y → h ≡ [] → PrintsNothing before after status
-        → EndsSearch p l before after (ending-of status h x z)
-    unmade before after status h z same none nothing = inr (record {
+    pub unmade : (sink : SinkView) (status : ℕ) (h : List Event) (z : C) → z ≡ y → h ≡ [] → status ≡ 7
+        → EndsSearch p l sink sink (ending-of status h x z)
+    unmade sink status h z same none seven = inr (inr (record {
       begun = record { begun = ap begun same ∙ begins; rated = ap rate same ∙ rates };
       readings = record {
         given = ap given same ∙ givens;
         ticks = told-unread (count x) (count z) (last x) (last z) (given x) h (ap count same ∙ counts) (ap last same ∙ lasts) none;
       };
-      run = inl none;
       stopped = inl none;
-      printed = nothing;
-    })
+      half = record {
+        status_is = seven;
+        run = inl none;
+        front = prints-none p l h sink none (appends-none sink.held);
+        unfailed = refl;
+      };
+    }))
 
     module _ (made new : TreeView C) (h : List Event) (z : C)
         (problem : made.problem ≡ p) (limits : made.limits ≡ l) (opened : made.opened ≡ y) (same : SameCharter made new) (history : h ≡ new.history) (ends : z ≡ new.clock)
         (whole : IsWholeRun new.problem new.limits h) (rated : rate z ≡ new.problem.scale) (begun-kept : begun z ≡ begun new.opened) (given-kept : given z ≡ given new.opened)
         (told : IsTold (count new.opened) (count new.clock) (last new.opened) (last new.clock) (given new.opened) new.history)
-        (searched : HasSearched new.limits new.history) where
+        (sent : Result Unit SendFault) (s t : SinkView)
+        (ended : Ends new.history sent) (is_busy : HasResult new.history → IsBusy new.limits 1 new.history)
+        (put : GivesCommands p new.limits new.history s t sent)
+        (said : flat_map (command_of p) h ≡ commands p (committed l h))
+        (growth : CommitsGrow p l) where
       problem-kept : new.problem ≡ p
       problem-kept = sym same.problem ∙ problem
 
@@ -127,8 +130,14 @@ module _ {C : Type 0} (count last rate : C → ℕ) (given : C → Option (List 
       whole-of : IsWholeRun p l h
       whole-of = subst (λ q. IsWholeRun q l h) problem-kept (subst (λ m. IsWholeRun new.problem m h) limits-kept whole)
 
-      searched-of : HasSearched l h
-      searched-of = subst (λ m. HasSearched m h) limits-kept (subst (HasSearched new.limits) (sym history) searched)
+      ended-of : Ends h sent
+      ended-of = subst (λ k. Ends k sent) (sym history) ended
+
+      busy-of : HasResult h → IsBusy l 1 h
+      busy-of result = subst (λ m. IsBusy m 1 h) limits-kept (subst (IsBusy new.limits 1) (sym history) (is_busy (subst HasResult history result)))
+
+      put-of : GivesCommands p l h s t sent
+      put-of = subst (λ m. GivesCommands p m h s t sent) limits-kept (subst (λ k. GivesCommands p new.limits k s t sent) (sym history) put)
 
       told-of : IsTold (count x) (count z) (last x) (last z) (given x) h
       told-of =
@@ -148,25 +157,70 @@ module _ {C : Type 0} (count last rate : C → ℕ) (given : C → Option (List 
         rated = rated ∙ ap (λ (q : Problem). q.scale) problem-kept;
       }
 
-      -- the result was printed, or memory was refused
-      pub search-ends : (before after : SinkView) (status : ℕ) → PrintsResult p h before after status ⊎ PrintsNothing before after status
-          → EndsSearch p l before after (ending-of status h x z)
-      search-ends before after status (inl w) = inl (record {
-        status = w.wanted;
-        solution = record {
-          below = w.below;
-          ends = w.ends;
-          whole = whole-of;
-          busy = busy-of l h w.wanted searched-of w.ends w.below;
-          begun = begun-of status;
-          readings = readings-of status;
-        };
-        printed = subst (λ (text : List ℕ). Prints text w.wanted before after status) (prints-result p l h whole-of.run) w.printed;
-      })
-      search-ends before after status (inr nothing) = inr (record {
+      grows : (front rest : List Event) → h ≡ front ++ rest → (more : List Timed) × (committed l h ≡ committed l front ++ more)
+      grows front rest is =
+          let grown = growth front rest (subst (IsRun p l) is whole-of.run) in
+          (grown.0, ap (committed l) is ∙ grown.1)
+
+      -- a put failed
+      unsaid : (u : SinkView) (status : ℕ) → status ≡ 6 → HasResult h ⊎ IsHaltedBy Out h → PrintsFront p l h s u → Rose s.faults u.faults
+          → EndsSearch p l s u (ending-of status h x z)
+      unsaid u status six stopped front failed = inr (inl (record {
         begun = begun-of status;
         readings = readings-of status;
-        run = inr whole-of;
-        stopped = inr (stopped-of l h searched-of);
-        printed = nothing;
-      })
+        stopped = stopped;
+        broken = record { status_is = six; whole = whole-of; front = front; failed = failed };
+      }))
+
+      -- memory was refused
+      half : (u : SinkView) (status : ℕ) → status ≡ 7 → HasResult h ⊎ IsHaltedBy Memory h → PrintsFront p l h s u → u.faults ≡ s.faults
+          → EndsSearch p l s u (ending-of status h x z)
+      half u status seven stopped front unfailed = inr (inr (record {
+        begun = begun-of status;
+        readings = readings-of status;
+        stopped = inr stopped;
+        half = record { status_is = seven; run = inr whole-of; front = front; unfailed = unfailed };
+      }))
+
+      -- all commands were put
+      all-put : (u : SinkView) (status : ℕ) → PutsAll p l h s t → Ends h (Ok tt) → PutsEnd p h t u status ⊎ WithholdsEnd p h t u status
+          → EndsSearch p l s u (ending-of status h x z)
+      all-put u status all ends (inr none) =
+          half u status none.status_is ends (prints-commands p l h said grows s t u status all none) (none.unfailed ∙ all.unfailed)
+      all-put u status all ends (inl e) = elim e.printed.ends [
+        | inl whole ↦
+            let result : HasResult h = result-of h e.wanted e.ends ends in
+            let same : status ≡ e.wanted = whole.status_is in
+            inl (record {
+              solution = record {
+                below = omega (arith, same, below-of h e.wanted e.ends result);
+                ends = subst (EndsAs h) (sym same) e.ends;
+                whole = whole-of;
+                busy = busy-of result;
+                begun = begun-of status;
+                readings = readings-of status;
+              };
+              printed = prints-whole p l h said grows s t u e.wanted status all (sym e.printed.once) whole;
+            })
+        | inr part ↦
+            unsaid u status part.status_is (inl (result-of h e.wanted e.ends ends))
+            (prints-front p l h said grows s t u part.printed.0 all (sym e.printed.once) part.printed.1)
+            (subst (λ n. Rose n u.faults) all.unfailed part.failed)
+      ]
+
+      -- the search, its commands, and what came behind them
+      pub search-ends : (u : SinkView) (status : ℕ) → GivesEnd p h sent t u status → EndsSearch p l s u (ending-of status h x z)
+      search-ends u status end = by_sent sent refl where
+        by_sent : (r : Result Unit SendFault) → sent ≡ r → EndsSearch p l s u (ending-of status h x z)
+        by_sent (Ok done) is =
+            all-put u status (subst (GivesCommands p l h s t) is put-of) (subst (Ends h) is ended-of) (subst (λ r. GivesEnd p h r t u status) is end)
+        by_sent (Err Failed) is =
+            let puts : PutsUntil p l h s t = subst (GivesCommands p l h s t) is put-of in
+            let stays : (status ≡ 6) × (u ≡ t) = subst (λ r. GivesEnd p h r t u status) is end in
+            subst (λ v. EndsSearch p l s v (ending-of status h x z)) (sym stays.1)
+            (unsaid t status stays.0 (subst (Ends h) is ended-of) (prints-some p l h said grows s t puts.front) puts.failed)
+        by_sent (Err NoMemory) is =
+            let puts : PutsSome p l h s t = subst (GivesCommands p l h s t) is put-of in
+            let stays : (status ≡ 7) × (u ≡ t) = subst (λ r. GivesEnd p h r t u status) is end in
+            subst (λ v. EndsSearch p l s v (ending-of status h x z)) (sym stays.1)
+            (half t status stays.0 (subst (Ends h) is ended-of) (prints-some p l h said grows s t puts.front) puts.unfailed)

@@ -1,83 +1,67 @@
 -- Why a command ends before its work, and what is put then.
-use Rattle.std.proofs.Common.{◌≡◌, ◌⊎◌, ap, sym, refl, subst, ℕ, inl, inr, Bool, true, false, List, [], ◌∷◌, Option, Some, None}
+use Rattle.std.proofs.Common.{◌≡◌, ◌⊎◌, ◌∙◌, ap, sym, refl, subst, ℕ, inl, inr, Bool, true, false, List, [], ◌∷◌, ◌++◌, Option, Some, None, Result, Ok, Err}
 use Rattle.std.proofs.KnownBytes.{Keeps-refl}
 use Rattle.std.proofs.lemmas.Bool.{false≢true}
+use Rattle.tp_spec.specs.declared.event.Event.{Event}
 use Rattle.tp_spec.specs.declared.plan.Limits.{Limits}
-use Rattle.tp_world.specs.Contents.{FilesView}
+use Rattle.tp_spec.specs.declared.problem.Problem.{Problem}
 use Rattle.tp_world.specs.Loads.{Wanted, AreLoaded, AsksFront}
+use Rattle.tp_world.specs.Contents.{FilesView}
 use Rattle.tp_world.specs.Sinks.{SinkView}
 use Rattle.tp_world.specs.Views.{Outside, ClockView}
-use Rattle.tp_spec.specs.declared.fault.LineFault.{LineFault}
-use Rattle.tp_spec.specs.declared.fault.LineFault.TheVariants as line_faults
+use Rattle.ground_text.specs.Texts.{problem_text}
 use Rattle.run_cli.specs.Orders.{Answers, fault_text, is_memory}
-use Rattle.run_cli.specs.Grounds.{IsFaultyText}
 use Rattle.run_cli.specs.Printing.{Prints, PrintsNothing}
-use Rattle.run_cli.specs.Solving.{IsUnsearched, IsSolveStop, EndsBefore}
-use Rattle.run_cli.specs.Statuses.{EndsLocal, EndsRun, EndsValidate}
+use Rattle.run_cli.specs.Sources.{source_files, HoldsProblem, HasNoProblem}
+use Rattle.run_cli.specs.Simulating.{script_files, EndsUnplayed}
+use Rattle.run_cli.specs.Solving.{EndsBefore}
+use Rattle.run_cli.specs.Statuses.{EndsLocal, EndsRun, EndsValidate, EndsGround}
 use Rattle.run_cli.specs.Runs.{EndingView, IsIdle}
-use Rattle.run_cli.specs.Stopping.{IsStop, ground_file, ground_and_plan}
-use Rattle.run_cli.specs.Validating.{RefusesGround, IsAnswer}
-use Rattle.run_cli.specs.VerdictTexts.{ground_line}
-use Rattle.run_cli.specs.declared.loading.Stop.{Stop}
-use Rattle.run_cli.specs.declared.loading.Stop.TheVariants.{Said, NoMemory}
+use Rattle.run_cli.specs.Stopping.{file_of}
+use Rattle.run_cli.specs.Validating.{IsAnswer}
+use Rattle.run_cli.specs.declared.loading.Role.TheVariants as roles
 use Rattle.run_cli.specs.declared.words.Order.{Order}
-use Rattle.run_cli.specs.declared.words.Order.TheVariants.{Solve, Validate, Help}
+use Rattle.run_cli.specs.declared.words.Order.TheVariants.{Solve, Simulate, Validate, Ground, Help}
+use Rattle.run_cli.specs.declared.words.Source.{Source}
+use Rattle.run_cli.specs.declared.words.Source.TheVariants.{GroundText, Pddl}
 use Rattle.run_cli.specs.declared.words.WordFault.{WordFault}
 use Rattle.run_cli.specs.declared.words.WordFault.TheVariants as faults
-use Rattle.std.proofs.Common.{Result, Ok, Err}
 use Rattle.run_cli.proofs.FirstLoads.{all-asked, none-asked, stopped-front}
 
-abbrev is_there : Option (List ℕ) → Bool
-is_there None = false
-is_there (Some line) = true
-
-abbrev is_line : LineFault → Bool
-is_line (line_faults.Line number) = true
-is_line line_faults.NoMemory = false
-
-refuses_ground : (text line : List ℕ) (fault : LineFault) → IsFaultyText text fault → ground_line fault ≡ Some line → RefusesGround text line
-refuses_ground text line (line_faults.Line number) why says = record {
-  fault = line_faults.Line number;
-  none = λ p is same. false≢true (sym (ap is_line (why.none p is same)));
-  tells = why.tells;
-  line_is = says;
-}
-refuses_ground text line line_faults.NoMemory why says = absurd (false≢true (ap is_there says))
-
--- a file is loaded, its text is no problem's, and the line says so
-pub unsearched-of : (file : Wanted) (text line : List ℕ) (fault : LineFault) (before after : FilesView) (status : ℕ) → AreLoaded (file ∷ []) (text ∷ []) before after
-    → IsFaultyText text fault → status ≡ 4 → ground_line fault ≡ Some line → IsUnsearched file before after status line
-unsearched-of file text line fault before after status loaded why is says =
-    inr (record { text = text; loaded = loaded; refuses = refuses_ground text line fault why says; status_is = is })
-
--- the file is not loaded
-pub solve-stop : (file : Wanted) (before after : FilesView) (s : Stop) → IsStop (file ∷ []) before after s → IsSolveStop file before after s
-solve-stop file before after (Said answer) why = inl why
-solve-stop file before after NoMemory why = why
-
-unsearched-front : (file : Wanted) (before after : FilesView) (status : ℕ) (line : List ℕ) → IsUnsearched file before after status line → AsksFront (file ∷ []) before after
-unsearched-front file before after status line (inl w) = stopped-front w
-unsearched-front file before after status line (inr w) = all-asked w.loaded.asked
+-- there is no problem: a front of the files was asked for
+pub unread-front : (source : Source) (further : List Wanted) (before after : FilesView) (status : ℕ) (line : List ℕ) → HasNoProblem source further before after status line
+    → AsksFront (source_files source ++ further) before after
+unread-front source further before after status line (inl w) = stopped-front w
+unread-front source further before after status line (inr w) = all-asked w.loaded.asked
 
 -- the line that says why is put
-pub says-why : (file : Wanted) (before after : Outside) (wanted : ℕ) (line : List ℕ) (status : ℕ) → IsUnsearched file before.files after.files wanted line
-    → Prints line wanted before.sink after.sink status ⊎ PrintsNothing before.sink after.sink status → EndsBefore file before after status
-says-why file before after wanted line status why (inl printed) = inl (record { wanted = wanted; line = line; why = why; printed = printed })
-says-why file before after wanted line status why (inr nothing) = inr (record { asked = unsearched-front file before.files after.files wanted line why; printed = nothing })
+pub says-why : (source : Source) (further : List Wanted) (before after : Outside) (wanted : ℕ) (line : List ℕ) (status : ℕ) → HasNoProblem source further before.files after.files wanted line
+    → Prints line wanted before.sink after.sink status ⊎ PrintsNothing before.sink after.sink status → EndsBefore source further before after status
+says-why source further before after wanted line status why (inl printed) = inl (record { wanted = wanted; line = line; why = why; printed = printed })
+says-why source further before after wanted line status why (inr nothing) = inr (record { asked = unread-front source further before.files after.files wanted line why; printed = nothing })
 
 -- nothing is put
 pub unput : (sink : SinkView) (status : ℕ) → status ≡ 7 → PrintsNothing sink sink status
 unput sink status is = record { status_is = is; kept = Keeps-refl sink.held; unfailed = refl; puts = inl refl }
 
-answer-front : (limits : Limits) (files : List Wanted) (before after : FilesView) (status : ℕ) (line : List ℕ) → IsAnswer limits files before after status line → AsksFront files before after
-answer-front limits files before after status line (inl w) = stopped-front w
-answer-front limits files before after status line (inr w) = all-asked w.loaded.asked
+answer-front : (limits : Limits) (source : Source) (plan : Wanted) (before after : FilesView) (status : ℕ) (line : List ℕ) → IsAnswer limits source plan before after status line
+    → AsksFront (source_files source ++ plan ∷ []) before after
+answer-front limits source plan before after status line (inl w) = unread-front source (plan ∷ []) before after status line w
+answer-front limits source plan before after status line (inr w) = all-asked w.holds.loaded.asked
 
 -- the line of an answer is put
-pub answer-put : (limits : Limits) (files : List Wanted) (before after : Outside) (wanted : ℕ) (line : List ℕ) (status : ℕ) → IsAnswer limits files before.files after.files wanted line
-    → Prints line wanted before.sink after.sink status ⊎ PrintsNothing before.sink after.sink status → EndsValidate limits files before after status
-answer-put limits files before after wanted line status answer (inl printed) = inl (record { wanted = wanted; line = line; answer = answer; printed = printed })
-answer-put limits files before after wanted line status answer (inr nothing) = inr (record { asked = answer-front limits files before.files after.files wanted line answer; printed = nothing })
+pub answer-put : (limits : Limits) (source : Source) (plan : List ℕ) (before after : Outside) (wanted : ℕ) (line : List ℕ) (status : ℕ)
+    → IsAnswer limits source (file_of roles.PlanFile plan) before.files after.files wanted line
+    → Prints line wanted before.sink after.sink status ⊎ PrintsNothing before.sink after.sink status → EndsValidate limits source plan before after status
+answer-put limits source plan before after wanted line status answer (inl printed) = inl (record { wanted = wanted; line = line; answer = answer; printed = printed })
+answer-put limits source plan before after wanted line status answer (inr nothing) =
+    inr (record { asked = answer-front limits source (file_of roles.PlanFile plan) before.files after.files wanted line answer; printed = nothing })
+
+-- the ground text of a problem is put
+pub ground-put : (source : Source) (p : Problem) (before after : Outside) (status : ℕ) → HoldsProblem source [] p [] before.files after.files
+    → Prints (problem_text p) 0 before.sink after.sink status ⊎ PrintsNothing before.sink after.sink status → EndsGround source before after status
+ground-put source p before after status holds (inl printed) = inl (record { problem = p; holds = holds; printed = printed })
+ground-put source p before after status holds (inr nothing) = inr (inr (record { asked = all-asked holds.loaded.asked; printed = nothing }))
 
 -- the same clock, as clauses see it
 pub same-clock : {C : Type 0} (count last rate : C → ℕ) (given : C → Option (List ℕ)) (begun : C → List ℕ) (x y : C) → x ≡ y
@@ -85,18 +69,31 @@ pub same-clock : {C : Type 0} (count last rate : C → ℕ) (given : C → Optio
 same-clock count last rate given begun x y same = λ i. record { count = count (same i); last = last (same i); rate = rate (same i); given = given (same i); begun = begun (same i) }
 
 -- memory was refused where no file was asked for
-memory-local : (wanted : Result Order WordFault) (before after : Outside) (status : ℕ) → after.files ≡ before.files → PrintsNothing before.sink after.sink status → EndsLocal wanted before after status
-memory-local (Err fault) before after status unasked nothing = record { unasked = unasked; ends = inr nothing }
-memory-local (Ok (Solve ground_name limits)) before after status unasked nothing = inr (inr (record { asked = none-asked (ground_file ground_name ∷ []) unasked; printed = nothing }))
-memory-local (Ok (Validate ground_name plan_name limits)) before after status unasked nothing = inr (record { asked = none-asked (ground_and_plan ground_name plan_name) unasked; printed = nothing })
-memory-local (Ok Help) before after status unasked nothing = record { unasked = unasked; ends = inr nothing }
+module _ (before after : Outside) (unasked : after.files ≡ before.files) where
+  memory-before : (source : Source) (further : List Wanted) (status : ℕ) → PrintsNothing before.sink after.sink status → EndsBefore source further before after status
+  memory-before source further status nothing = inr (record { asked = none-asked (source_files source ++ further) unasked; printed = nothing })
 
-memory-run : (wanted : Result Order WordFault) (before after : Outside) (ending : EndingView) → after.files ≡ before.files → PrintsNothing before.sink after.sink ending.status → IsIdle ending
-    → EndsRun wanted before after ending
-memory-run (Err fault) before after ending unasked nothing idle = (record { unasked = unasked; ends = inr nothing }, idle)
-memory-run (Ok (Solve ground_name limits)) before after ending unasked nothing idle = inr (inr (record { asked = none-asked (ground_file ground_name ∷ []) unasked; printed = nothing }), idle)
-memory-run (Ok (Validate ground_name plan_name limits)) before after ending unasked nothing idle = (inr (record { asked = none-asked (ground_and_plan ground_name plan_name) unasked; printed = nothing }), idle)
-memory-run (Ok Help) before after ending unasked nothing idle = (record { unasked = unasked; ends = inr nothing }, idle)
+  memory-validate : (limits : Limits) (source : Source) (plan : List ℕ) (status : ℕ) → PrintsNothing before.sink after.sink status → EndsValidate limits source plan before after status
+  memory-validate limits source plan status nothing = inr (record { asked = none-asked (source_files source ++ file_of roles.PlanFile plan ∷ []) unasked; printed = nothing })
+
+  memory-script : (source : Source) (script : List ℕ) (status : ℕ) → PrintsNothing before.sink after.sink status → EndsUnplayed source script before after status
+  memory-script source script status nothing = inr (record { asked = none-asked (source_files source ++ script_files script) unasked; printed = nothing })
+
+  memory-local : (wanted : Result Order WordFault) (status : ℕ) (history : List Event) → PrintsNothing before.sink after.sink status → history ≡ [] → EndsLocal wanted before after status history
+  memory-local (Err fault) status history nothing none = record { unasked = unasked; ends = inr nothing }
+  memory-local (Ok (Solve source limits)) status history nothing none = inr (memory-before source [] status nothing)
+  memory-local (Ok (Simulate source script limits)) status history nothing none = inr (memory-script source script status nothing, none)
+  memory-local (Ok (Validate source plan limits)) status history nothing none = memory-validate limits source plan status nothing
+  memory-local (Ok (Ground domain problem scale)) status history nothing none = inr (memory-before (Pddl domain problem scale) [] status nothing)
+  memory-local (Ok Help) status history nothing none = record { unasked = unasked; ends = inr nothing }
+
+  memory-run : (wanted : Result Order WordFault) (ending : EndingView) → PrintsNothing before.sink after.sink ending.status → IsIdle ending → EndsRun wanted before after ending
+  memory-run (Err fault) ending nothing idle = (record { unasked = unasked; ends = inr nothing }, idle)
+  memory-run (Ok (Solve source limits)) ending nothing idle = inr (memory-before source [] ending.status nothing, idle)
+  memory-run (Ok (Simulate source script limits)) ending nothing idle = (inr (memory-script source script ending.status nothing, idle.none), idle.same)
+  memory-run (Ok (Validate source plan limits)) ending nothing idle = (memory-validate limits source plan ending.status nothing, idle)
+  memory-run (Ok (Ground domain problem scale)) ending nothing idle = (inr (memory-before (Pddl domain problem scale) [] ending.status nothing), idle)
+  memory-run (Ok Help) ending nothing idle = (record { unasked = unasked; ends = inr nothing }, idle)
 
 refused-words : (fault : WordFault) (wanted : Result Order WordFault) → Answers (Err fault) wanted → is_memory fault ≡ false → wanted ≡ Err fault
 refused-words (faults.NoCommand at) wanted answers known = answers
@@ -112,19 +109,19 @@ refused-words faults.NoMemory wanted answers known = absurd (false≢true (sym k
 
 -- what the words' fault, or a refusal of memory, gives
 module _ (fault : WordFault) (wanted : Result Order WordFault) (answers : Answers (Err fault) wanted) (before after : Outside) (unasked : after.files ≡ before.files) where
-  at-local : (b : Bool) (status : ℕ) → is_memory fault ≡ b → Prints (fault_text fault) 3 before.sink after.sink status ⊎ PrintsNothing before.sink after.sink status
-      → (is_memory fault ≡ true → PrintsNothing before.sink after.sink status) → EndsLocal wanted before after status
-  at-local true status is printed nothing = memory-local wanted before after status unasked (nothing is)
-  at-local false status is printed nothing =
-      subst (λ (r : Result Order WordFault). EndsLocal r before after status) (sym (refused-words fault wanted answers is)) (record { unasked = unasked; ends = printed })
+  at-local : (b : Bool) (status : ℕ) (history : List Event) → is_memory fault ≡ b → Prints (fault_text fault) 3 before.sink after.sink status ⊎ PrintsNothing before.sink after.sink status
+      → (is_memory fault ≡ true → PrintsNothing before.sink after.sink status) → history ≡ [] → EndsLocal wanted before after status history
+  at-local true status history is printed nothing none = memory-local before after unasked wanted status history (nothing is) none
+  at-local false status history is printed nothing none =
+      subst (λ (r : Result Order WordFault). EndsLocal r before after status history) (sym (refused-words fault wanted answers is)) (record { unasked = unasked; ends = printed })
 
-  pub fault-local : (status : ℕ) → Prints (fault_text fault) 3 before.sink after.sink status ⊎ PrintsNothing before.sink after.sink status
-      → (is_memory fault ≡ true → PrintsNothing before.sink after.sink status) → EndsLocal wanted before after status
-  fault-local status printed nothing = at-local (is_memory fault) status refl printed nothing
+  pub fault-local : (status : ℕ) (history : List Event) → Prints (fault_text fault) 3 before.sink after.sink status ⊎ PrintsNothing before.sink after.sink status
+      → (is_memory fault ≡ true → PrintsNothing before.sink after.sink status) → history ≡ [] → EndsLocal wanted before after status history
+  fault-local status history printed nothing none = at-local (is_memory fault) status history refl printed nothing none
 
   at-run : (b : Bool) (ending : EndingView) → is_memory fault ≡ b → Prints (fault_text fault) 3 before.sink after.sink ending.status ⊎ PrintsNothing before.sink after.sink ending.status
       → (is_memory fault ≡ true → PrintsNothing before.sink after.sink ending.status) → IsIdle ending → EndsRun wanted before after ending
-  at-run true ending is printed nothing idle = memory-run wanted before after ending unasked (nothing is) idle
+  at-run true ending is printed nothing idle = memory-run before after unasked wanted ending (nothing is) idle
   at-run false ending is printed nothing idle =
       subst (λ (r : Result Order WordFault). EndsRun r before after ending) (sym (refused-words fault wanted answers is)) (record { unasked = unasked; ends = printed }, idle)
 

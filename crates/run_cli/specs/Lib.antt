@@ -6,7 +6,9 @@ pub mod Grounds
 pub mod Help
 pub mod Printing
 pub mod Runs
+pub mod Sources
 pub mod Solving
+pub mod Simulating
 pub mod Statuses
 pub mod Stopping
 pub mod Validating

@@ -1,34 +1,40 @@
 -- The commands, their files and their options: the tables of the command line; and how a number is
 -- spelled.
-use Rattle.std.specs.Prelude.{ℕ, ◌^◌, Bool, ◌&&◌, nat_lt, if◌then◌else◌, List, [], ◌∷◌, length, bytes_eq, codes, is_some, Option, Some, None}
+use Rattle.std.specs.Prelude.{ℕ, ◌^◌, Bool, true, false, not, ◌&&◌, ◌||◌, nat_lt, nat_eq, if◌then◌else◌, List, [], ◌∷◌, length, bytes_eq, codes, is_some, Option, Some, None}
 use Rattle.std.specs.Char.{is_ascii_digit}
 use Rattle.std.specs.List.{list_all}
 use Rattle.std.specs.Str.Parse.{digits_value}
 use Rattle.run_cli.specs.declared.options.Command.{Command}
-use Rattle.run_cli.specs.declared.options.Command.TheVariants.{Solve, Validate, Help}
+use Rattle.run_cli.specs.declared.options.Command.TheVariants.{Solve, Simulate, Validate, Ground, Help}
 use Rattle.run_cli.specs.declared.options.Numbers.{Numbers}
 use Rattle.run_cli.specs.declared.options.Setting.{Setting}
-use Rattle.run_cli.specs.declared.options.Setting.TheVariants.{Actions, Horizon, Nodes, PlanFile}
+use Rattle.run_cli.specs.declared.options.Setting.TheVariants.{Lead, Actions, Horizon, Nodes, Scale, Script, PlanFile}
 
 -- all commands
 abbrev pub all_commands : List Command
-all_commands = Solve ∷ Validate ∷ Help ∷ []
+all_commands = Solve ∷ Simulate ∷ Validate ∷ Ground ∷ Help ∷ []
 
 abbrev pub command_name : Command → List ℕ
 command_name Solve = codes "solve"
+command_name Simulate = codes "simulate"
 command_name Validate = codes "validate"
+command_name Ground = codes "ground"
 command_name Help = codes "help"
 
 -- the least and the greatest number of files of a command
 abbrev pub file_bounds : Command → ℕ × ℕ
-file_bounds Solve = (1, 1)
-file_bounds Validate = (1, 1)
+file_bounds Solve = (1, 2)
+file_bounds Simulate = (1, 2)
+file_bounds Validate = (1, 2)
+file_bounds Ground = (2, 2)
 file_bounds Help = (0, 0)
 
 -- the options of a command
 abbrev pub options_of : Command → List Setting
-options_of Solve = Actions ∷ Horizon ∷ Nodes ∷ []
-options_of Validate = PlanFile ∷ Actions ∷ Horizon ∷ []
+options_of Solve = Lead ∷ Actions ∷ Horizon ∷ Nodes ∷ Scale ∷ []
+options_of Simulate = Script ∷ Lead ∷ Actions ∷ Horizon ∷ Nodes ∷ Scale ∷ []
+options_of Validate = PlanFile ∷ Actions ∷ Horizon ∷ Scale ∷ []
+options_of Ground = Scale ∷ []
 options_of Help = []
 
 -- the command of this name among some
@@ -48,15 +54,24 @@ pub record Row : Type 0 where
 abbrev pub numbered : List ℕ → ℕ → ℕ → ℕ → Row
 numbered name least most default = record {
   name = name;
-  numbers = Some (record { least = least; most = most; default = default });
+  numbers = Some (record { least = least; most = most; default = default; scales = false });
 }
+
+abbrev pub worded : List ℕ → Row
+worded name = record { name = name; numbers = None }
 
 -- the options: the name, the least and the greatest number, and the number where none is given
 abbrev pub row_of : Setting → Row
+row_of Lead = numbered (codes "lead") 0 1000 0
 row_of Actions = numbered (codes "actions") 1 64 64
 row_of Horizon = numbered (codes "horizon") 1 (2 ^ 40) (2 ^ 40)
 row_of Nodes = numbered (codes "nodes") 1 200000 50000
-row_of PlanFile = record { name = codes "plan"; numbers = None }
+row_of Scale = record {
+  name = codes "scale";
+  numbers = Some (record { least = 1; most = 1000; default = 1; scales = true });
+}
+row_of Script = worded (codes "script")
+row_of PlanFile = worded (codes "plan")
 
 abbrev pub name_of : Setting → List ℕ
 name_of s = (row_of s).name
@@ -77,9 +92,19 @@ is_number text = nat_lt 0 (length text) && nat_lt (length text) 14 && list_all i
 abbrev pub within : ℕ → ℕ → ℕ → Option ℕ
 within low high n = if nat_lt n low then None else if nat_lt high n then None else Some n
 
--- a number from `low` to `high`
-abbrev pub number_in : ℕ → ℕ → List ℕ → Option ℕ
-number_in low high text = if is_number text then within low high (digits_value 10 text) else None
+abbrev pub is_scale : ℕ → Bool
+is_scale n = nat_eq n 1 || nat_eq n 10 || nat_eq n 100 || nat_eq n 1000
+
+-- a number that is one of some numbers: from the least to the greatest, and a scale where only
+-- those count
+abbrev pub among : Numbers → ℕ → Option ℕ
+among numbers n =
+    if numbers.scales && not (is_scale n) then None else within numbers.least numbers.most n
+
+-- the number of some numbers that a text spells
+abbrev pub number_in : Numbers → List ℕ → Option ℕ
+number_in numbers text =
+    if is_number text then among numbers (digits_value 10 text) else None
 
 -- whether a command takes so many files
 abbrev pub takes : Command → ℕ → Bool

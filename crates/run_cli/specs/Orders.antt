@@ -5,9 +5,11 @@ use Rattle.tp_spec.specs.declared.plan.Limits.{Limits}
 use Rattle.run_cli.specs.declared.options.Command.{Command}
 use Rattle.run_cli.specs.declared.options.Command.TheVariants as commands
 use Rattle.run_cli.specs.declared.options.Setting.{Setting}
-use Rattle.run_cli.specs.declared.options.Setting.TheVariants.{Actions, Horizon, Nodes, PlanFile}
+use Rattle.run_cli.specs.declared.options.Setting.TheVariants.{Lead, Actions, Horizon, Nodes, Scale, Script, PlanFile}
 use Rattle.run_cli.specs.declared.words.Order.{Order}
-use Rattle.run_cli.specs.declared.words.Order.TheVariants.{Solve, Validate, Help}
+use Rattle.run_cli.specs.declared.words.Order.TheVariants.{Solve, Simulate, Validate, Ground, Help}
+use Rattle.run_cli.specs.declared.words.Source.{Source}
+use Rattle.run_cli.specs.declared.words.Source.TheVariants.{GroundText, Pddl}
 use Rattle.run_cli.specs.declared.words.WordFault.{WordFault}
 use Rattle.run_cli.specs.declared.words.WordFault.TheVariants.{NoCommand, UnknownCommand, UnknownOption, Twice, NoValue, BadNumber, FileCount, ScaleOfGround, Missing, NoMemory}
 use Rattle.run_cli.specs.declared.options.Numbers.{Numbers}
@@ -31,7 +33,7 @@ twice_faults before at s = if is_given before s then Twice at ∷ [] else []
 abbrev pub range_faults : ℕ → Option Numbers → List ℕ → List WordFault
 range_faults at None value = []
 range_faults at (Some n) value =
-    if is_some (number_in n.least n.most value) then [] else BadNumber at ∷ []
+    if is_some (number_in n value) then [] else BadNumber at ∷ []
 
 -- the faults of an argument behind other arguments: at one word in this order
 abbrev pub argument_faults : List Argument → Argument → List WordFault
@@ -63,6 +65,11 @@ abbrev pub first_name : List (List ℕ) → Option (List ℕ)
 first_name [] = None
 first_name (name ∷ rest) = Some name
 
+-- the second of some names
+abbrev pub second_name : List (List ℕ) → Option (List ℕ)
+second_name [] = None
+second_name (name ∷ rest) = first_name rest
+
 abbrev pub value_in : Setting → Argument → Option (List ℕ)
 value_in s (File name) = None
 value_in s (Given at t value_at value) =
@@ -82,7 +89,7 @@ value_of (argument ∷ rest) s = or_else (value_in s argument) (value_of rest s)
 -- a value as a number in range; the default where it is none, or is not there
 abbrev pub number_or : Numbers → Option (List ℕ) → ℕ
 number_or n None = n.default
-number_or n (Some value) = unwrap_or (number_in n.least n.most value) n.default
+number_or n (Some value) = unwrap_or (number_in n value) n.default
 
 abbrev pub number_from : Option Numbers → Option (List ℕ) → ℕ
 number_from None value = 0
@@ -100,32 +107,63 @@ most_from (Some n) = n.most
 abbrev pub most_of : Setting → ℕ
 most_of s = most_from (numbers_of s)
 
--- the limits that options give, with no lead
+-- the limits that options give
 abbrev pub limits_of : List Argument → Limits
 limits_of arguments = record {
   actions = number_of arguments Actions;
   horizon = number_of arguments Horizon;
-  lead = 0;
+  lead = number_of arguments Lead;
   nodes = number_of arguments Nodes;
 }
 
--- The order of a command with its first file, with the plan file that `validate` needs, and with
--- its limits; else what is wrong with all `count` words.
-abbrev pub order_from : Command → ℕ → Option (List ℕ) → Option (List ℕ) → Limits
+-- The source that a first and a second file name, and whether a scale is given, and which; else
+-- what is wrong with all `count` words.
+abbrev pub source_from : ℕ → Option (List ℕ) → Option (List ℕ) → Bool → ℕ → Result Source WordFault
+source_from count None second scaled scale = Err (FileCount count)
+source_from count (Some name) None true scale = Err (ScaleOfGround count)
+source_from count (Some name) None false scale = Ok (GroundText name)
+source_from count (Some domain) (Some problem) scaled scale = Ok (Pddl domain problem scale)
+
+-- The order of a command that has a source, with the script and the plan file that a command
+-- needs, and with its limits.
+abbrev pub order_with : Command → ℕ → Option (List ℕ) → Option (List ℕ) → Limits → Source
     → Result Order WordFault
-order_from commands.Help count file plan limits = Ok Help
-order_from commands.Solve count None plan limits = Err (FileCount count)
-order_from commands.Solve count (Some file) plan limits = Ok (Solve file limits)
-order_from commands.Validate count None plan limits = Err (FileCount count)
-order_from commands.Validate count (Some file) None limits = Err (Missing count)
-order_from commands.Validate count (Some file) (Some plan) limits = Ok (Validate file plan limits)
+order_with commands.Solve count script plan limits source = Ok (Solve source limits)
+order_with commands.Simulate count None plan limits source = Err (Missing count)
+order_with commands.Simulate count (Some script) plan limits source =
+    Ok (Simulate source script limits)
+order_with commands.Validate count script None limits source = Err (Missing count)
+order_with commands.Validate count script (Some plan) limits source =
+    Ok (Validate source plan limits)
+order_with commands.Ground count script plan limits (GroundText name) = Err (FileCount count)
+order_with commands.Ground count script plan limits (Pddl domain problem scale) =
+    Ok (Ground domain problem scale)
+order_with commands.Help count script plan limits source = Ok Help
+
+-- an order with the source that was named, or what is wrong with it
+abbrev pub with_source : (Source → Result Order WordFault) → Result Source WordFault
+    → Result Order WordFault
+with_source order (Ok source) = order source
+with_source order (Err fault) = Err fault
+
+-- the command that has no source
+abbrev pub is_help : Command → Bool
+is_help commands.Help = true
+is_help _ = false
+
+-- the order of a command with its files, its script, its plan file and its scale
+abbrev pub order_from : Command → ℕ → List Argument → Result Order WordFault
+order_from command count arguments =
+    if is_help command then Ok Help
+    else with_source (order_with command count (value_of arguments Script)
+    (value_of arguments PlanFile) (limits_of arguments))
+    (source_from count (first_name (files_of arguments)) (second_name (files_of arguments))
+    (is_given arguments Scale) (number_of arguments Scale))
 
 -- the order of all arguments, where the command takes so many files
 abbrev pub whole_order : Command → ℕ → List Argument → Result Order WordFault
 whole_order command count arguments =
-    if takes command (length (files_of arguments))
-    then order_from command count (first_name (files_of arguments)) (value_of arguments PlanFile)
-    (limits_of arguments)
+    if takes command (length (files_of arguments)) then order_from command count arguments
     else Err (FileCount count)
 
 -- the faults of single words come first
@@ -148,8 +186,8 @@ order_of [] = Err (NoCommand 0)
 order_of (word ∷ rest) = commanded (command_named word) rest
 
 -- what is answered: this, or that memory was refused
-abbrev pub Answers : Result Order WordFault → Result Order WordFault → Type 0
-Answers (Ok order) wanted = wanted ≡ Ok order
+abbrev pub Answers : {T : Type 0} → Result T WordFault → Result T WordFault → Type 0
+Answers (Ok value) wanted = wanted ≡ Ok value
 Answers (Err NoMemory) wanted = Unit {0}
 Answers (Err fault) wanted = wanted ≡ Err fault
 
@@ -160,10 +198,21 @@ is_memory _ = false
 
 -- whether the words order `solve`
 abbrev pub is_solve : Result Order WordFault → Bool
-is_solve (Ok (Solve file limits)) = true
-is_solve (Ok (Validate file plan limits)) = false
+is_solve (Ok (Solve source limits)) = true
+is_solve (Ok (Simulate source script limits)) = false
+is_solve (Ok (Validate source plan limits)) = false
+is_solve (Ok (Ground domain problem scale)) = false
 is_solve (Ok Help) = false
 is_solve (Err fault) = false
+
+-- whether the words order `simulate`
+abbrev pub is_simulate : Result Order WordFault → Bool
+is_simulate (Ok (Solve source limits)) = false
+is_simulate (Ok (Simulate source script limits)) = true
+is_simulate (Ok (Validate source plan limits)) = false
+is_simulate (Ok (Ground domain problem scale)) = false
+is_simulate (Ok Help) = false
+is_simulate (Err fault) = false
 
 -- the first of some faults
 abbrev pub first_of : List WordFault → Option WordFault

@@ -1,28 +1,22 @@
--- The files of a command, and why it ends before its work.
-use Rattle.std.specs.Prelude.{◌≡◌, ◌⊎◌, ℕ, List, [], ◌∷◌, ◌++◌, codes, decimal}
+-- The files of a command, and why not all of them were loaded.
+use Rattle.std.specs.Prelude.{◌≡◌, ◌⊎◌, ℕ, List, ◌++◌, codes, decimal}
 use Rattle.tp_world.specs.Contents.{FilesView}
 use Rattle.tp_world.specs.Loads.{Wanted, AsksFront, IsTooLongAt, FailsAt}
 use Rattle.run_cli.specs.declared.loading.Role.{Role}
-use Rattle.run_cli.specs.declared.loading.Role.TheVariants.{GroundText, PlanFile}
+use Rattle.run_cli.specs.declared.loading.Role.TheVariants.{Domain, Problem, GroundText, Script, PlanFile}
 use Rattle.run_cli.specs.declared.loading.Stop.{Stop}
 use Rattle.run_cli.specs.declared.loading.Stop.TheVariants.{Said, NoMemory}
 
 abbrev pub role_name : Role → List ℕ
+role_name Domain = codes "domain"
+role_name Problem = codes "problem"
 role_name GroundText = codes "ground"
+role_name Script = codes "script"
 role_name PlanFile = codes "plan"
 
 -- a file of this role, of at most 1,048,576 bytes
 abbrev pub file_of : Role → List ℕ → Wanted
 file_of role name = record { role = role_name role; name = name; most = 1048576 }
-
--- the file of `solve`
-abbrev pub ground_file : List ℕ → Wanted
-ground_file name = file_of GroundText name
-
--- the files of `validate`, in their order
-abbrev pub ground_and_plan : List ℕ → List ℕ → List Wanted
-ground_and_plan ground_name plan_name =
-    file_of GroundText ground_name ∷ file_of PlanFile plan_name ∷ []
 
 abbrev pub too_long_line : Wanted → List ℕ
 too_long_line file =

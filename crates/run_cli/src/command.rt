@@ -1,26 +1,31 @@
 ghost use Rattle.std.specs.Prelude.{◌≡◌, ◌<◌, ◌^◌, ◌⊎◌, [], map, length, true, false, string_bytes};
-ghost use Rattle.run_cli.specs.Orders.{order_of, fault_text, is_solve, is_memory as is_memory_of};
+ghost use Rattle.run_cli.specs.Orders.{order_of, fault_text, is_solve, is_simulate, is_memory as is_memory_of};
 ghost use Rattle.run_cli.specs.Help.{help_text};
 ghost use Rattle.run_cli.specs.Printing.{Prints, PrintsNothing};
 ghost use Rattle.run_cli.specs.Statuses.{EndsLocal, EndsRun};
 
 use crate::answer::Answer;
 use crate::ending::{Ending, say, unsearched};
+use crate::grounding::ground_files;
 use crate::help::help_text;
+use crate::simulating::simulate_files;
 use crate::solving::{leave_file, solve_file};
 use crate::validating::judge_files;
-use crate::words::{Order, WordFault, fault_line, read_words};
+use crate::words::{Order, Source, WordFault, fault_line, read_words};
 use std::alloc::Global;
 use tp_spec::NoMemory;
 use tp_world::{Clock, Files, Gate, Sink};
 
-/// Does what the words say. `solve FILE` reads a ground text, searches with one worker, and prints
-/// a plan, `exhausted` or `limit`; `validate FILE --plan FILE` prints whether a plan is valid, and
-/// else the first of its parts that is broken; `help` prints a line for each command. The status is
-/// 0 where a plan is published or valid or the commands are told, 1 where the search is exhausted
-/// or the plan is not valid, 2 at the limit of ids, 3 where the words are refused, 4 where a file
-/// is, 5 where one can't be loaded, 6 where the output fails, and 7 where memory is refused. Only
-/// `solve` begins and reads the clock and has a history.
+/// Does what the words say. A problem is that of a ground text (one file), or of a PDDL domain and
+/// a PDDL problem (two files); all files of a command are loaded before one is read. `solve`
+/// searches for a plan with one worker, and prints a plan, `exhausted` or `limit`; `simulate` runs
+/// the steps of a script; `validate` prints whether the plan of a plan file is valid, and else the
+/// first of its parts that is broken; `ground` prints the ground text of a domain and a problem;
+/// `help` prints a line for each command. The status is 0 where a plan is published or valid, or a
+/// text is printed, 1 where the search is exhausted or the plan is not valid, 2 at the limit of
+/// ids, 3 where the words are refused, 4 where a file is, 5 where one can't be loaded, 6 where the
+/// output fails, 7 where memory is refused, and 8 where the script ends before the search. Only
+/// `solve` begins and reads the clock, and only `solve` and `simulate` have a history.
 pub fn run<F: Files, O: Sink + Send, C: Clock + Send, G: Gate>(
     alloc: Global,
     words: &[String],
@@ -57,32 +62,45 @@ pub fn run<F: Files, O: Sink + Send, C: Clock + Send, G: Gate>(
         → result.clock ≡ clock }
 {
     match read_words(alloc, words) {
-        Ok(Order::Solve { ground, limits }) => {
-            solve_file(alloc, ground.as_str(), limits, files, out, clock)
+        Ok(Order::Solve { source, limits }) => {
+            solve_file(alloc, &source, limits, files, out, clock)
         }
         Ok(
+            Order::Simulate {
+                source,
+                script,
+                limits,
+            },
+        ) => simulate_files(alloc, &source, script.as_str(), limits, files, out, clock),
+        Ok(
             Order::Validate {
-                ground,
+                source,
                 plan,
                 limits,
             },
-        ) => judge_files(
-            alloc,
-            ground.as_str(),
-            plan.as_str(),
-            &limits,
-            files,
-            out,
-            clock,
-        ),
+        ) => judge_files(alloc, &source, plan.as_str(), &limits, files, out, clock),
+        Ok(
+            Order::Ground {
+                domain,
+                problem,
+                scale,
+            },
+        ) => {
+            let source = Source::Pddl {
+                domain,
+                problem,
+                scale,
+            };
+            ground_files(alloc, &source, files, out, clock)
+        }
         Ok(Order::Help) => print_help(alloc, out, clock),
         Err(fault) => refuse_words(alloc, fault, out, clock),
     }
 }
 
 /// Does what the words say as `run` does, but waits for nobody: every command but `solve`. `solve`
-/// reads its file as `run` does, with the same statuses and lines for a file that is refused or
-/// can't be loaded; where it is a problem's text nothing is put, and the status is 3.
+/// reads its files as `run` does, with the same statuses and lines for a file that is refused or
+/// can't be loaded; where they are a problem's nothing is put, and the status is 3.
 pub fn run_local<F: Files, O: Sink, C: Clock>(
     alloc: Global,
     words: &[String],
@@ -94,28 +112,43 @@ pub fn run_local<F: Files, O: Sink, C: Clock>(
     ensures ends { EndsLocal (order_of (map string_bytes words.now)) (record {
       files = F.view files.old;
       sink = O.view out.old;
-    }) (record { files = F.view files.new; sink = O.view out.new }) result.status }
+    }) (record { files = F.view files.new; sink = O.view out.new }) result.status
+        result.history.items }
     ensures contents { (F.view files.new).contents ≡ (F.view files.old).contents }
-    ensures history { result.history.items ≡ [] }
+    ensures history { is_simulate (order_of (map string_bytes words.now)) ≡ false
+        → result.history.items ≡ [] }
     ensures clock { result.clock ≡ clock }
 {
     match read_words(alloc, words) {
-        Ok(Order::Solve { ground, .. }) => { leave_file(alloc, ground.as_str(), files, out, clock) }
+        Ok(Order::Solve { source, .. }) => leave_file(alloc, &source, files, out, clock),
+        Ok(
+            Order::Simulate {
+                source,
+                script,
+                limits,
+            },
+        ) => simulate_files(alloc, &source, script.as_str(), limits, files, out, clock),
         Ok(
             Order::Validate {
-                ground,
+                source,
                 plan,
                 limits,
             },
-        ) => judge_files(
-            alloc,
-            ground.as_str(),
-            plan.as_str(),
-            &limits,
-            files,
-            out,
-            clock,
-        ),
+        ) => judge_files(alloc, &source, plan.as_str(), &limits, files, out, clock),
+        Ok(
+            Order::Ground {
+                domain,
+                problem,
+                scale,
+            },
+        ) => {
+            let source = Source::Pddl {
+                domain,
+                problem,
+                scale,
+            };
+            ground_files(alloc, &source, files, out, clock)
+        }
         Ok(Order::Help) => print_help(alloc, out, clock),
         Err(fault) => refuse_words(alloc, fault, out, clock),
     }

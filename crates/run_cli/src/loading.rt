@@ -1,25 +1,42 @@
-ghost use Rattle.std.specs.Prelude.{◌≡◌, [], ◌∷◌, IfOk, IfErr, Some};
+ghost use Rattle.std.specs.Prelude.{◌≡◌, ◌≤◌, [], ◌∷◌, ◌++◌, IfOk, IfErr, length};
 ghost use Rattle.tp_world.specs.Loads.{AreLoaded};
-ghost use Rattle.run_cli.specs.Solving.{HoldsProblem, IsSolveStop};
-ghost use Rattle.run_cli.specs.Stopping.{IsStop, role_name, file_of, ground_file, ground_and_plan, failed_line, too_long_line};
-ghost use Rattle.run_cli.specs.VerdictTexts.{ground_line as ground_line_of};
+ghost use Rattle.run_cli.specs.Sources.{IsScaled, AreTextsOf, source_files, texts_of, HoldsProblem, IsSourceStop};
+ghost use Rattle.run_cli.specs.declared.loading.Role.TheVariants as roles;
+ghost use Rattle.run_cli.specs.Stopping.{IsStop, role_name, file_of, failed_line, too_long_line};
 
 use crate::answer::Answer;
-use crate::reader::read_ground;
-use crate::verdicts::ground_line;
+use crate::reader::read_source;
+use crate::words::Source;
 use line_text::{push_bytes, push_number};
 use std::alloc::Global;
-use tp_spec::{LineFault, NoMemory, Problem};
+use tp_spec::{NoMemory, Problem};
 use tp_world::{Files, LoadFault};
 
-/// The most bytes of a ground text, and of a plan file.
+/// The most bytes of a file.
 const MOST_BYTES: u64 = 1_048_576;
 
 /// What a file is to a command.
 #[derive(Clone, Copy, Debug, PartialEq, Eq)]
 pub enum Role {
+    Domain,
+    Problem,
     GroundText,
+    Script,
     PlanFile,
+}
+
+/// What is loaded of the files of a source: the text of a ground problem, or those of a domain and
+/// a problem with their scale.
+#[derive(Drop)]
+pub enum SourceTexts {
+    GroundText {
+        text: Vec<u8>,
+    },
+    Pddl {
+        domain: Vec<u8>,
+        problem: Vec<u8>,
+        scale: u32,
+    },
 }
 
 /// Why a command ends before its work: it says why, or memory was refused.
@@ -45,7 +62,10 @@ fn role_name(role: Role) -> &'static [u8]
     ensures { result.now ≡ role_name role }
 {
     match role {
+        Role::Domain => b"domain",
+        Role::Problem => b"problem",
         Role::GroundText => b"ground",
+        Role::Script => b"script",
         Role::PlanFile => b"plan",
     }
 }
@@ -80,6 +100,7 @@ fn load<F: Files>(alloc: Global, role: Role, name: &str, files: &mut F) -> Resul
         (F.view files.old) (F.view files.new)) }
     ensures stop { IfErr result (IsStop (file_of role name.now ∷ []) (F.view files.old)
         (F.view files.new)) }
+    ensures short { IfOk result (λ text. length text.items ≤ 1048576) }
     ensures contents { (F.view files.new).contents ≡ (F.view files.old).contents }
 {
     match files.load(alloc, name, MOST_BYTES) {
@@ -100,45 +121,95 @@ fn load<F: Files>(alloc: Global, role: Role, name: &str, files: &mut F) -> Resul
     }
 }
 
-/// Loads a ground text and then a plan file.
-pub fn load_both<F: Files>(
+/// Loads a domain, and then a problem.
+fn load_pair<F: Files>(
     alloc: Global,
-    ground_name: &str,
-    plan_name: &str,
+    domain: &str,
+    problem: &str,
     files: &mut F,
 ) -> Result<(Vec<u8>, Vec<u8>), Stop>
-    ensures loaded { IfOk result (λ texts. AreLoaded (ground_and_plan ground_name.now plan_name.now)
+    ensures loaded { IfOk result (λ texts. AreLoaded
+        (file_of roles.Domain domain.now ∷ file_of roles.Problem problem.now ∷ [])
         (texts.0.items ∷ texts.1.items ∷ []) (F.view files.old) (F.view files.new)) }
-    ensures stop { IfErr result (IsStop (ground_and_plan ground_name.now plan_name.now)
+    ensures stop { IfErr result (IsStop
+        (file_of roles.Domain domain.now ∷ file_of roles.Problem problem.now ∷ [])
         (F.view files.old) (F.view files.new)) }
+    ensures first { IfOk result (λ texts. length texts.0.items ≤ 1048576) }
+    ensures second { IfOk result (λ texts. length texts.1.items ≤ 1048576) }
     ensures contents { (F.view files.new).contents ≡ (F.view files.old).contents }
 {
-    let text = load(alloc, Role::GroundText, ground_name, files)?;
-    let bytes = load(alloc, Role::PlanFile, plan_name, files)?;
-    Ok((text, bytes))
+    let first = load(alloc, Role::Domain, domain, files)?;
+    let second = load(alloc, Role::Problem, problem, files)?;
+    Ok((first, second))
 }
 
-/// Loads and reads a ground text; the problem that it is of.
-pub fn load_ground<F: Files>(alloc: Global, name: &str, files: &mut F) -> Result<Problem, Stop>
-    ensures holds { IfOk result (λ p. HoldsProblem (ground_file name.now) p (F.view files.old)
-        (F.view files.new)) }
-    ensures stop { IfErr result (IsSolveStop (ground_file name.now) (F.view files.old)
+/// Loads the files of a source, in their order.
+fn load_source<F: Files>(alloc: Global, source: &Source, files: &mut F) -> Result<SourceTexts, Stop>
+    ensures loaded { IfOk result (λ texts. AreLoaded (source_files source.now) (texts_of texts)
+        (F.view files.old) (F.view files.new)) }
+    ensures texts { IfOk result (AreTextsOf source.now) }
+    ensures stop { IfErr result (IsStop (source_files source.now) (F.view files.old)
         (F.view files.new)) }
     ensures contents { (F.view files.new).contents ≡ (F.view files.old).contents }
 {
-    let text = load(alloc, Role::GroundText, name, files)?;
-    match read_ground(alloc, &text) {
-        Ok(problem) => Ok(problem),
-        Err(fault) => Err(Stop::Said {
-            answer: refusal(alloc, fault)?,
-        }),
+    match source {
+        Source::GroundText { name } => {
+            let text = load(alloc, Role::GroundText, name.as_str(), files)?;
+            Ok(SourceTexts::GroundText { text })
+        }
+        Source::Pddl {
+            domain,
+            problem,
+            scale,
+        } => {
+            let scale = *scale;
+            let (domain, problem) = load_pair(alloc, domain.as_str(), problem.as_str(), files)?;
+            Ok(SourceTexts::Pddl {
+                domain,
+                problem,
+                scale,
+            })
+        }
     }
 }
 
-/// What is said of a text that is no problem's.
-fn refusal(alloc: Global, fault: LineFault) -> Result<Answer, NoMemory>
-    ensures { IfOk result (λ a. (a.status ≡ 4) × (ground_line_of fault ≡ Some a.line.items)) }
+/// Loads the files of a source, each of at most 1,048,576 bytes, and then reads them: the problem
+/// that they are of.
+pub fn load_problem<F: Files>(
+    alloc: Global,
+    source: &Source,
+    files: &mut F,
+) -> Result<Problem, Stop>
+    requires { IsScaled source.now }
+    ensures holds { IfOk result (λ p. HoldsProblem source.now [] p [] (F.view files.old)
+        (F.view files.new)) }
+    ensures stop { IfErr result (IsSourceStop source.now [] (F.view files.old)
+        (F.view files.new)) }
+    ensures contents { (F.view files.new).contents ≡ (F.view files.old).contents }
 {
-    let line = ground_line(alloc, fault)?;
-    Ok(Answer { status: 4, line })
+    let texts = load_source(alloc, source, files)?;
+    read_source(alloc, source, &texts)
+}
+
+/// Loads the files of a source and a further file, each of at most 1,048,576 bytes, and then reads
+/// those of the source: the problem that they are of, with the bytes of the further file.
+pub fn load_problem_and<F: Files>(
+    alloc: Global,
+    source: &Source,
+    role: Role,
+    name: &str,
+    files: &mut F,
+) -> Result<(Problem, Vec<u8>), Stop>
+    requires { IsScaled source.now }
+    ensures holds { IfOk result (λ read. HoldsProblem source.now (file_of role name.now ∷ [])
+        read.0 (read.1.items ∷ []) (F.view files.old) (F.view files.new)) }
+    ensures short { IfOk result (λ read. length read.1.items ≤ 1048576) }
+    ensures stop { IfErr result (IsSourceStop source.now (file_of role name.now ∷ [])
+        (F.view files.old) (F.view files.new)) }
+    ensures contents { (F.view files.new).contents ≡ (F.view files.old).contents }
+{
+    let texts = load_source(alloc, source, files)?;
+    let bytes = load(alloc, role, name, files)?;
+    let problem = read_source(alloc, source, &texts)?;
+    Ok((problem, bytes))
 }

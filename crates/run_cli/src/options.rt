@@ -1,15 +1,19 @@
-ghost use Rattle.std.specs.Prelude.{◌≡◌, ◌≤◌, Some, IfSome};
+ghost use Rattle.std.specs.Prelude.{◌≡◌, ◌≤◌, Some, None, IfSome, false};
 ghost use Rattle.std.specs.Char.{is_ascii_digit};
 ghost use Rattle.std.specs.List.{list_all};
-ghost use Rattle.run_cli.specs.Options.{all_commands, command_name, file_bounds, takes, command_named, row_of, name_of, numbers_of, options_of, option_named, is_number, within, number_in};
+ghost use Rattle.run_cli.specs.Options.{all_commands, command_name, file_bounds, takes, command_named, row_of, name_of, numbers_of, options_of, option_named, is_number, within, is_scale, among, number_in};
 
 /// A command of the program.
 #[derive(Clone, Copy, Debug, PartialEq, Eq)]
 pub enum Command {
     /// Searches for a plan.
     Solve,
+    /// Runs the steps of a script.
+    Simulate,
     /// Judges a plan file.
     Validate,
+    /// Prints the ground text of a domain and a problem.
+    Ground,
     /// Tells the commands, with their files and options.
     Help,
 }
@@ -17,22 +21,30 @@ pub enum Command {
 /// An option of a command.
 #[derive(Clone, Copy, Debug, PartialEq, Eq)]
 pub enum Setting {
+    /// How many ticks before its time a start is given out at the latest.
+    Lead,
     /// The most acts of a plan.
     Actions,
     /// The last tick of a plan.
     Horizon,
     /// The most ids that the search gives to nodes.
     Nodes,
+    /// How many ticks there are in a unit of time of a domain and a problem.
+    Scale,
+    /// The script whose steps are to be run.
+    Script,
     /// The plan file that is to be judged.
     PlanFile,
 }
 
-/// The numbers that an option takes: from `least` to `most`, and the one where none is given.
+/// The numbers that an option takes: from `least` to `most`, only those of a scale (1, 10, 100 and
+/// 1000) where `scales`, and the one where none is given.
 #[derive(Clone, Copy)]
 pub struct Numbers {
     pub least: u64,
     pub most: u64,
     pub default: u64,
+    pub scales: bool,
 }
 
 /// An option: its name without the dashes, and its numbers where it takes one.
@@ -46,7 +58,13 @@ struct Row {
 pub fn all_commands() -> &'static [Command]
     ensures { result.now ≡ all_commands }
 {
-    &[Command::Solve, Command::Validate, Command::Help]
+    &[
+        Command::Solve,
+        Command::Simulate,
+        Command::Validate,
+        Command::Ground,
+        Command::Help,
+    ]
 }
 
 /// The name of a command.
@@ -55,7 +73,9 @@ pub fn command_name(command: Command) -> &'static [u8]
 {
     match command {
         Command::Solve => b"solve",
+        Command::Simulate => b"simulate",
         Command::Validate => b"validate",
+        Command::Ground => b"ground",
         Command::Help => b"help",
     }
 }
@@ -65,8 +85,10 @@ pub fn file_bounds(command: Command) -> (u64, u64)
     ensures { result ≡ file_bounds command }
 {
     match command {
-        Command::Solve => (1, 1),
-        Command::Validate => (1, 1),
+        Command::Solve => (1, 2),
+        Command::Simulate => (1, 2),
+        Command::Validate => (1, 2),
+        Command::Ground => (2, 2),
         Command::Help => (0, 0),
     }
 }
@@ -96,8 +118,28 @@ pub fn options_of(command: Command) -> &'static [Setting]
     ensures { result.now ≡ options_of command }
 {
     match command {
-        Command::Solve => &[Setting::Actions, Setting::Horizon, Setting::Nodes],
-        Command::Validate => &[Setting::PlanFile, Setting::Actions, Setting::Horizon],
+        Command::Solve => &[
+            Setting::Lead,
+            Setting::Actions,
+            Setting::Horizon,
+            Setting::Nodes,
+            Setting::Scale,
+        ],
+        Command::Simulate => &[
+            Setting::Script,
+            Setting::Lead,
+            Setting::Actions,
+            Setting::Horizon,
+            Setting::Nodes,
+            Setting::Scale,
+        ],
+        Command::Validate => &[
+            Setting::PlanFile,
+            Setting::Actions,
+            Setting::Horizon,
+            Setting::Scale,
+        ],
+        Command::Ground => &[Setting::Scale],
         Command::Help => &[],
     }
 }
@@ -106,7 +148,7 @@ pub fn options_of(command: Command) -> &'static [Setting]
 fn numbered(name: &'static [u8], least: u64, most: u64, default: u64) -> Row
     ensures name { result.name.now ≡ name.now }
     ensures numbers { result.numbers
-        ≡ Some (record { least = least; most = most; default = default }) }
+        ≡ Some (record { least = least; most = most; default = default; scales = false }) }
 {
     Row {
         name,
@@ -114,7 +156,19 @@ fn numbered(name: &'static [u8], least: u64, most: u64, default: u64) -> Row
             least,
             most,
             default,
+            scales: false,
         }),
+    }
+}
+
+/// The row of an option whose value is a text.
+fn worded(name: &'static [u8]) -> Row
+    ensures name { result.name.now ≡ name.now }
+    ensures numbers { result.numbers ≡ None }
+{
+    Row {
+        name,
+        numbers: None,
     }
 }
 
@@ -125,13 +179,21 @@ fn row_of(setting: Setting) -> Row
     ensures default { IfSome result.numbers (λ n. n.default ≤ n.most) }
 {
     match setting {
+        Setting::Lead => numbered(b"lead", 0, 1000, 0),
         Setting::Actions => numbered(b"actions", 1, 64, 64),
         Setting::Horizon => numbered(b"horizon", 1, 1 << 40, 1 << 40),
         Setting::Nodes => numbered(b"nodes", 1, 200_000, 50_000),
-        Setting::PlanFile => Row {
-            name: b"plan",
-            numbers: None,
+        Setting::Scale => Row {
+            name: b"scale",
+            numbers: Some(Numbers {
+                least: 1,
+                most: 1000,
+                default: 1,
+                scales: true,
+            }),
         },
+        Setting::Script => worded(b"script"),
+        Setting::PlanFile => worded(b"plan"),
     }
 }
 
@@ -178,7 +240,8 @@ fn is_number(text: &[u8]) -> bool
 
 /// A number that is from `low` to `high`.
 fn within(low: u64, high: u64, number: u64) -> Option<u64>
-    ensures { result ≡ within low high number }
+    ensures number { result ≡ within low high number }
+    ensures most { IfSome result (λ n. n ≤ high) }
 {
     if number < low {
         None
@@ -189,17 +252,35 @@ fn within(low: u64, high: u64, number: u64) -> Option<u64>
     }
 }
 
-/// The number from `low` to `high` that a text spells by 1 to 13 digits.
-pub fn number_in(low: u64, high: u64, text: &str) -> Option<u64>
-    ensures number { result ≡ number_in low high text.now }
-    ensures least { IfSome result (λ n. low ≤ n) }
-    ensures most { IfSome result (λ n. n ≤ high) }
+/// Whether a number is 1, 10, 100 or 1000.
+fn is_scale(number: u64) -> bool
+    ensures { result ≡ is_scale number }
+{
+    number == 1 || number == 10 || number == 100 || number == 1000
+}
+
+/// A number that is one of some numbers.
+fn among(numbers: Numbers, number: u64) -> Option<u64>
+    ensures number { result ≡ among numbers number }
+    ensures most { IfSome result (λ n. n ≤ numbers.most) }
+{
+    if numbers.scales && !is_scale(number) {
+        None
+    } else {
+        within(numbers.least, numbers.most, number)
+    }
+}
+
+/// The number of some numbers that a text spells by 1 to 13 digits.
+pub fn number_in(numbers: Numbers, text: &str) -> Option<u64>
+    ensures number { result ≡ number_in numbers text.now }
+    ensures most { IfSome result (λ n. n ≤ numbers.most) }
 {
     if !is_number(text.as_bytes()) {
         return None;
     }
     match text.parse::<u64>() {
-        Ok(number) => within(low, high, number),
+        Ok(number) => among(numbers, number),
         Err(_) => None,
     }
 }

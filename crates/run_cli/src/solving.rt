@@ -1,31 +1,32 @@
-ghost use Rattle.std.specs.Prelude.{◌≡◌, ◌<◌, ◌⊎◌, [], MatchOption};
+ghost use Rattle.std.specs.Prelude.{◌≡◌, ◌<◌, ◌⊎◌, []};
 ghost use Rattle.tp_spec.specs.WellFormed.{IsWellFormed};
 ghost use Rattle.word_network.specs.Conditions.{AreLimits};
-ghost use Rattle.run_cli.specs.Outcomes.{status_of, EndsAs, HasNoResult, PrintsResult};
-ghost use Rattle.run_cli.specs.Printing.{PrintsNothing};
 ghost use Rattle.run_cli.specs.Solving.{EndsSearch, EndsSolve, EndsUnsolved};
-ghost use Rattle.run_cli.specs.Stopping.{ground_file};
+ghost use Rattle.run_cli.specs.Sources.{IsScaled};
 
-use crate::ending::{Ending, put, say, unsearched};
-use crate::loading::{Stop, load_ground};
-use crate::printing::result_text;
+use crate::ending::{Ending, say, unsearched};
+use crate::loading::{Stop, load_problem};
+use crate::outcome::print_end;
+use crate::words::Source;
 use open_tree::Tree;
-use search_workers::search;
+use run_laws::commitments_of_runs;
+use serial_runs::{commands_of_history, search};
 use std::alloc::Global;
-use tp_spec::{Event, Limits, NoMemory, Problem};
+use tp_spec::{Limits, NoMemory, Problem};
 use tp_world::{Clock, Files, Sink};
 
-/// Loads and reads a ground text, and solves its problem.
+/// Loads and reads the files of a source, and solves their problem.
 pub fn solve_file<F: Files, O: Sink, C: Clock>(
     alloc: Global,
-    name: &str,
+    source: &Source,
     limits: Limits,
     files: &mut F,
     out: &mut O,
     clock: C,
 ) -> Ending<C>
-    requires { AreLimits limits }
-    ensures ends { EndsSolve (ground_file name.now) limits (record {
+    requires limits { AreLimits limits }
+    requires scaled { IsScaled source.now }
+    ensures ends { EndsSolve source.now limits (record {
       files = F.view files.old;
       sink = O.view out.old;
     }) (record { files = F.view files.new; sink = O.view out.new }) (record {
@@ -49,22 +50,24 @@ pub fn solve_file<F: Files, O: Sink, C: Clock>(
     ensures contents { (F.view files.new).contents ≡ (F.view files.old).contents }
     ensures same { 2 < result.status → result.status < 6 → result.clock ≡ clock }
 {
-    match load_ground(alloc, name, files) {
+    match load_problem(alloc, source, files) {
         Ok(problem) => solve(alloc, &problem, limits, out, clock),
         Err(Stop::Said { answer }) => say(alloc, out, answer, clock),
         Err(Stop::NoMemory) => unsearched(alloc, 7, clock),
     }
 }
 
-/// Loads and reads a ground text, and searches nothing. Where it is a problem's, nothing is put.
+/// Loads and reads the files of a source, and searches nothing. Where they are a problem's, nothing
+/// is put.
 pub fn leave_file<F: Files, O: Sink, C: Clock>(
     alloc: Global,
-    name: &str,
+    source: &Source,
     files: &mut F,
     out: &mut O,
     clock: C,
 ) -> Ending<C>
-    ensures ends { EndsUnsolved (ground_file name.now) (record {
+    requires { IsScaled source.now }
+    ensures ends { EndsUnsolved source.now (record {
       files = F.view files.old;
       sink = O.view out.old;
     }) (record { files = F.view files.new; sink = O.view out.new }) result.status }
@@ -72,14 +75,15 @@ pub fn leave_file<F: Files, O: Sink, C: Clock>(
     ensures history { result.history.items ≡ [] }
     ensures clock { result.clock ≡ clock }
 {
-    match load_ground(alloc, name, files) {
+    match load_problem(alloc, source, files) {
         Ok(_) => unsearched(alloc, 3, clock),
         Err(Stop::Said { answer }) => say(alloc, out, answer, clock),
         Err(Stop::NoMemory) => unsearched(alloc, 7, clock),
     }
 }
 
-/// Searches for a plan of a problem, and prints the result.
+/// Searches for a plan of a problem: puts each command as soon as its turn has ended, and then the
+/// result.
 fn solve<O: Sink, C: Clock>(
     alloc: Global,
     problem: &Problem,
@@ -114,51 +118,14 @@ fn solve<O: Sink, C: Clock>(
         Ok(tree) => tree,
         Err((NoMemory, clock)) => return unsearched(alloc, 7, clock),
     };
-    search(alloc, problem, &mut tree);
+    let sent = search(alloc, problem, &mut tree, out);
     let (history, clock) = tree.into_parts();
-    let status = print_result(alloc, problem, out, &history);
+    commands_of_history();
+    commitments_of_runs();
+    let status = print_end(alloc, problem, sent, out, &history);
     Ending {
         status,
         history,
         clock,
-    }
-}
-
-/// Prints the result of a history. The status is that of its last event, 6 where the put fails, or
-/// 7 where memory is refused or the last event is no result.
-fn print_result<O: Sink>(alloc: Global, problem: &Problem, out: &mut O, history: &[Event]) -> u8
-    ensures { PrintsResult problem.now history.now (O.view out.old) (O.view out.new) result
-        ⊎ PrintsNothing (O.view out.old) (O.view out.new) result }
-{
-    let Some(status) = end_status(history) else {
-        return 7;
-    };
-    match result_text(alloc, problem, history) {
-        Ok(text) => put(out, &text, status),
-        Err(NoMemory) => 7,
-    }
-}
-
-/// The status for the result that a history ends with; none where it ends with none.
-fn end_status(history: &[Event]) -> Option<u8>
-    ensures { MatchOption result (HasNoResult history.now)
-        (λ status. (status < 3) × EndsAs history.now status) }
-{
-    match history {
-        [.., last] => outcome_status(last),
-        [] => None,
-    }
-}
-
-/// The status for an event that ends a search; none for every other event.
-fn outcome_status(event: &Event) -> Option<u8>
-    ensures { MatchOption result (status_of event.now ≡ 7)
-        (λ status. (status < 3) × (status ≡ status_of event.now)) }
-{
-    match event {
-        Event::Publish { .. } => Some(0),
-        Event::Exhaust => Some(1),
-        Event::Limit { .. } => Some(2),
-        _ => None,
     }
 }

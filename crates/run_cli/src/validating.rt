@@ -1,14 +1,16 @@
-ghost use Rattle.std.specs.Prelude.{◌≡◌, ◌<◌, ◌≤◌, ◌⊎◌, [], IfOk, OnErr, length};
+ghost use Rattle.std.specs.Prelude.{◌≡◌, ◌<◌, ◌≤◌, ◌⊎◌, [], ◌∷◌, ◌++◌, IfOk, OnErr, length};
 ghost use Rattle.tp_world.specs.Loads.{AsksFront};
 ghost use Rattle.run_cli.specs.Statuses.{EndsValidate};
-ghost use Rattle.run_cli.specs.Stopping.{ground_and_plan};
-ghost use Rattle.run_cli.specs.Validating.{verdict_status, IsPlanAnswer, IsTextAnswer, IsAnswer};
+ghost use Rattle.run_cli.specs.Sources.{IsScaled, source_files};
+ghost use Rattle.run_cli.specs.Stopping.{file_of};
+ghost use Rattle.run_cli.specs.Validating.{verdict_status, IsPlanAnswer, IsAnswer};
+ghost use Rattle.run_cli.specs.declared.loading.Role.TheVariants.{PlanFile};
 
 use crate::answer::Answer;
 use crate::ending::{Ending, say, unsearched};
-use crate::loading::{Stop, load_both};
-use crate::verdicts::{ground_line, plan_line, verdict_text};
-use ground_text::read_problem_text;
+use crate::loading::{Role, Stop, load_problem_and};
+use crate::verdicts::{plan_line, verdict_text};
+use crate::words::Source;
 use plan_text::read_plan;
 use plan_validator::{Verdict, validate};
 use std::alloc::Global;
@@ -51,61 +53,43 @@ fn plan_answer(
     }
 }
 
-/// What a ground text and a plan file give, read in this order.
-fn text_answer(
-    alloc: Global,
-    limits: &Limits,
-    text: &[u8],
-    bytes: &[u8],
-) -> Result<Answer, NoMemory>
-    requires text { length text.now ≤ 1048576 }
-    requires bytes { length bytes.now ≤ 1048576 }
-    ensures { IfOk result (λ a. IsTextAnswer limits.now text.now bytes.now a.status a.line.items) }
-{
-    match read_problem_text(alloc, text) {
-        Ok(problem) => plan_answer(alloc, &problem, limits, bytes),
-        Err(fault) => {
-            let line = ground_line(alloc, fault)?;
-            Ok(Answer { status: 4, line })
-        }
-    }
-}
-
-/// What two files give. Both are loaded before one is read.
+/// What the files of a source and a plan file give. All are loaded before one is read.
 fn files_answer<F: Files>(
     alloc: Global,
-    ground_name: &str,
-    plan_name: &str,
+    source: &Source,
+    plan: &str,
     limits: &Limits,
     files: &mut F,
 ) -> Result<Answer, NoMemory>
-    ensures answer { IfOk result (λ a. IsAnswer limits.now
-        (ground_and_plan ground_name.now plan_name.now) (F.view files.old) (F.view files.new)
-        a.status a.line.items) }
-    ensures memory { OnErr result (AsksFront (ground_and_plan ground_name.now plan_name.now)
-        (F.view files.old) (F.view files.new)) }
+    requires { IsScaled source.now }
+    ensures answer { IfOk result (λ a. IsAnswer limits.now source.now (file_of PlanFile plan.now)
+        (F.view files.old) (F.view files.new) a.status a.line.items) }
+    ensures memory { OnErr result (AsksFront
+        (source_files source.now ++ file_of PlanFile plan.now ∷ []) (F.view files.old)
+        (F.view files.new)) }
     ensures contents { (F.view files.new).contents ≡ (F.view files.old).contents }
 {
-    match load_both(alloc, ground_name, plan_name, files) {
-        Ok((text, bytes)) => text_answer(alloc, limits, &text, &bytes),
+    match load_problem_and(alloc, source, Role::PlanFile, plan, files) {
+        Ok((problem, bytes)) => plan_answer(alloc, &problem, limits, &bytes),
         Err(Stop::Said { answer }) => Ok(answer),
         Err(Stop::NoMemory) => Err(NoMemory),
     }
 }
 
-/// Judges the plan of a plan file for the problem of a ground text, and prints the verdict. The
-/// status is 0 where the plan is valid and 1 where it is not, 4 where a file is refused, 5 where
-/// one can't be loaded, 6 where the output fails, and 7 where memory is refused.
+/// Judges the plan of a plan file for a problem, and prints the verdict. The status is 0 where the
+/// plan is valid and 1 where it is not, 4 where a file is refused, 5 where one can't be loaded, 6
+/// where the output fails, and 7 where memory is refused.
 pub fn judge_files<F: Files, O: Sink, C: Clock>(
     alloc: Global,
-    ground_name: &str,
-    plan_name: &str,
+    source: &Source,
+    plan: &str,
     limits: &Limits,
     files: &mut F,
     out: &mut O,
     clock: C,
 ) -> Ending<C>
-    ensures ends { EndsValidate limits.now (ground_and_plan ground_name.now plan_name.now) (record {
+    requires { IsScaled source.now }
+    ensures ends { EndsValidate limits.now source.now plan.now (record {
       files = F.view files.old;
       sink = O.view out.old;
     }) (record { files = F.view files.new; sink = O.view out.new }) result.status }
@@ -113,7 +97,7 @@ pub fn judge_files<F: Files, O: Sink, C: Clock>(
     ensures history { result.history.items ≡ [] }
     ensures clock { result.clock ≡ clock }
 {
-    match files_answer(alloc, ground_name, plan_name, limits, files) {
+    match files_answer(alloc, source, plan, limits, files) {
         Ok(answer) => say(alloc, out, answer, clock),
         Err(NoMemory) => unsearched(alloc, 7, clock),
     }

@@ -3,7 +3,7 @@ ghost use Rattle.std.specs.Option.{option_map};
 ghost use Rattle.run_cli.specs.Options.{numbers_of};
 ghost use Rattle.run_cli.specs.Arguments.{view_of};
 ghost use Rattle.run_cli.specs.declared.words.WordFault.TheVariants.{NoValue as no_value};
-ghost use Rattle.run_cli.specs.Orders.{gives, is_given, twice_faults, range_faults, argument_faults, faults_from, files_of, first_name, value_of, number_or, number_of, most_of, limits_of, order_from, whole_order, ordered, order_of, Answers, first_of, named_fault, fault_text};
+ghost use Rattle.run_cli.specs.Orders.{gives, is_given, twice_faults, range_faults, argument_faults, faults_from, files_of, first_name, second_name, value_of, number_or, number_of, most_of, limits_of, source_from, order_with, is_help, order_from, whole_order, ordered, order_of, Answers, first_of, named_fault, fault_text};
 
 use crate::arguments::{Argument, arguments_of};
 use crate::options::{
@@ -14,20 +14,47 @@ use std::alloc::Global;
 use thiserror::Error;
 use tp_spec::{Limits, Name, NoMemory};
 
+/// The files of which a problem is made.
+#[derive(Drop)]
+pub enum Source {
+    /// A ground text.
+    GroundText {
+        name: Name,
+    },
+    /// A PDDL domain and a PDDL problem, with the ticks of a unit of time: 1, 10, 100 or 1000.
+    Pddl {
+        domain: Name,
+        problem: Name,
+        scale: u32,
+    },
+}
+
 /// What a command line orders: a command, its files, and the limits of a run, with the default of
 /// each that is not given.
 #[derive(Drop)]
 pub enum Order {
-    /// To search for a plan of the problem of a ground text.
+    /// To search for a plan of a problem.
     Solve {
-        ground: Name,
+        source: Source,
         limits: Limits,
     },
-    /// To judge the plan of a plan file for the problem of a ground text.
+    /// To run the steps of a script on a problem.
+    Simulate {
+        source: Source,
+        script: Name,
+        limits: Limits,
+    },
+    /// To judge the plan of a plan file for a problem.
     Validate {
-        ground: Name,
+        source: Source,
         plan: Name,
         limits: Limits,
+    },
+    /// To print the ground text of a PDDL domain and a PDDL problem at this scale.
+    Ground {
+        domain: Name,
+        problem: Name,
+        scale: u32,
     },
     /// To tell the commands.
     Help,
@@ -58,7 +85,7 @@ pub enum WordFault {
     /// The number of files is not the command's.
     #[error("the number of files is not right ({at} words)")]
     FileCount { at: u32 },
-    /// A scale was given beside a ground text; comes with the option `--scale`.
+    /// A scale was given beside a ground text, which has its own.
     #[error("a ground text has its own scale ({at} words)")]
     ScaleOfGround { at: u32 },
     /// An option is missing that the command needs.
@@ -117,7 +144,7 @@ fn value_fault(at: u32, setting: Setting, value: &str) -> Option<WordFault>
     ensures { result ≡ first_of (range_faults at (numbers_of setting) value.now) }
 {
     let numbers = numbers_of(setting)?;
-    match number_in(numbers.least, numbers.most, value) {
+    match number_in(numbers, value) {
         Some(_) => None,
         None => Some(WordFault::BadNumber { at }),
     }
@@ -197,6 +224,20 @@ fn first_file<'a>(arguments: &[Argument<'a>]) -> Option<&'a str>
     None
 }
 
+/// The name of the second file.
+fn second_file<'a>(arguments: &[Argument<'a>]) -> Option<&'a str>
+    ensures { option_map (λ t. t.now) result ≡ second_name (files_of (map view_of arguments.now)) }
+{
+    let mut rest = arguments;
+    loop {
+        match rest {
+            [Argument::File { .. }, tail @ ..] => return first_file(tail),
+            [_, tail @ ..] => rest = tail,
+            [] => return None,
+        }
+    }
+}
+
 /// The value of an option.
 fn value_of<'a>(arguments: &[Argument<'a>], setting: Setting) -> Option<&'a str>
     ensures { option_map (λ t. t.now) result ≡ value_of (map view_of arguments.now) setting }
@@ -223,7 +264,7 @@ fn number_or(numbers: Numbers, value: Option<&str>) -> u64
     ensures most { result ≤ numbers.most }
 {
     match value {
-        Some(text) => match number_in(numbers.least, numbers.most, text) {
+        Some(text) => match number_in(numbers, text) {
             Some(number) => number,
             None => numbers.default,
         },
@@ -249,7 +290,7 @@ fn limits_of(arguments: &[Argument<'_>]) -> Limits
     Limits {
         actions: number_of(arguments, Setting::Actions) as u32,
         horizon: number_of(arguments, Setting::Horizon),
-        lead: 0,
+        lead: number_of(arguments, Setting::Lead),
         nodes: number_of(arguments, Setting::Nodes) as u32,
     }
 }
@@ -267,33 +308,123 @@ fn file_count(arguments: &[Argument<'_>]) -> usize
     count
 }
 
-/// The order of a command with its first file, and with the plan file that `validate` needs.
-fn order_from(
+/// The source that a first and a second file name; `scaled` says whether a scale is given.
+fn source_from(
+    alloc: Global,
+    count: u32,
+    first: Option<&str>,
+    second: Option<&str>,
+    scaled: bool,
+    scale: u32,
+) -> Result<Source, WordFault>
+    ensures { Answers result (source_from count (option_map (λ t. t.now) first.entry)
+        (option_map (λ t. t.now) second.entry) scaled scale) }
+{
+    match (first, second) {
+        (None, _) => Err(WordFault::FileCount { at: count }),
+        (Some(name), None) => {
+            if scaled {
+                return Err(WordFault::ScaleOfGround { at: count });
+            }
+            Ok(Source::GroundText {
+                name: Name::of(alloc, name)?,
+            })
+        }
+        (Some(domain), Some(problem)) => Ok(Source::Pddl {
+            domain: Name::of(alloc, domain)?,
+            problem: Name::of(alloc, problem)?,
+            scale,
+        }),
+    }
+}
+
+/// The order of a command that has a source, with the script and the plan file that a command
+/// needs.
+fn order_with(
     alloc: Global,
     command: Command,
     count: u32,
-    file: Option<&str>,
+    script: Option<&str>,
     plan: Option<&str>,
     limits: Limits,
+    source: Source,
 ) -> Result<Order, WordFault>
-    ensures { Answers result (order_from command count (option_map (λ t. t.now) file.entry)
-        (option_map (λ t. t.now) plan.entry) limits) }
+    ensures { Answers result (order_with command count (option_map (λ t. t.now) script.entry)
+        (option_map (λ t. t.now) plan.entry) limits source) }
 {
-    match (command, file) {
-        (Command::Help, _) => Ok(Order::Help),
-        (_, None) => Err(WordFault::FileCount { at: count }),
-        (Command::Solve, Some(file)) => Ok(Order::Solve {
-            ground: Name::of(alloc, file)?,
-            limits,
-        }),
-        (Command::Validate, Some(file)) => match plan {
+    match command {
+        Command::Solve => Ok(Order::Solve { source, limits }),
+        Command::Simulate => match script {
+            Some(script) => Ok(Order::Simulate {
+                source,
+                script: Name::of(alloc, script)?,
+                limits,
+            }),
+            None => Err(WordFault::Missing { at: count }),
+        },
+        Command::Validate => match plan {
             Some(plan) => Ok(Order::Validate {
-                ground: Name::of(alloc, file)?,
+                source,
                 plan: Name::of(alloc, plan)?,
                 limits,
             }),
             None => Err(WordFault::Missing { at: count }),
         },
+        Command::Ground => match source {
+            Source::Pddl {
+                domain,
+                problem,
+                scale,
+            } => Ok(Order::Ground {
+                domain,
+                problem,
+                scale,
+            }),
+            Source::GroundText { .. } => Err(WordFault::FileCount { at: count }),
+        },
+        Command::Help => Ok(Order::Help),
+    }
+}
+
+/// Whether a command is the one that has no source.
+fn is_help(command: Command) -> bool
+    ensures { result ≡ is_help command }
+{
+    matches!(command, Command::Help)
+}
+
+/// The order of a command with its files, its script, its plan file and its scale.
+#[tactic(auto, using(crate::proofs::Sourced::with_fault, crate::proofs::Sourced::with_order))]
+fn order_from(
+    alloc: Global,
+    command: Command,
+    count: u32,
+    arguments: &[Argument<'_>],
+) -> Result<Order, WordFault>
+    ensures { Answers result (order_from command count (map view_of arguments.now)) }
+{
+    if is_help(command) {
+        return Ok(Order::Help);
+    }
+    let source = source_from(
+        alloc,
+        count,
+        first_file(arguments),
+        second_file(arguments),
+        is_given(arguments, Setting::Scale),
+        number_of(arguments, Setting::Scale) as u32,
+    );
+    match source {
+        Ok(source) => order_with(
+            alloc,
+            command,
+            count,
+            value_of(arguments, Setting::Script),
+            value_of(arguments, Setting::PlanFile),
+            limits_of(arguments),
+            source,
+        ),
+        Err(fault) => Err(fault),
     }
 }
 
@@ -307,14 +438,7 @@ fn whole_order(
     ensures { Answers result (whole_order command count (map view_of arguments.now)) }
 {
     if takes(command, file_count(arguments) as u64) {
-        order_from(
-            alloc,
-            command,
-            count,
-            first_file(arguments),
-            value_of(arguments, Setting::PlanFile),
-            limits_of(arguments),
-        )
+        order_from(alloc, command, count, arguments)
     } else {
         Err(WordFault::FileCount { at: count })
     }

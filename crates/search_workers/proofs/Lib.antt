@@ -1,4 +1,2 @@
 pub mod LiveMarks
-pub mod OneWorker
-pub mod OneJob
 pub mod ShortWay

@@ -14,7 +14,7 @@ use Rattle.tp_spec.specs.Machine.{AreLiveMarks, mark_before}
 use Rattle.tp_spec.specs.Words.{Sound, at_start, progress, may_follow}
 use Rattle.tp_laws.proofs.EarlyLists.{Rising, rising-filter, in-left, in-right}
 use Rattle.tp_laws.proofs.EarlyReading.{follow-append, follow-back}
-use Rattle.tp_laws.proofs.Runs.{in-append, in-map, in-filter, map-in}
+use Rattle.tp_laws.proofs.Members.{in-append, in-map, in-filter, map-in}
 use Rattle.tp_laws.proofs.WordOfLists.{filter-in, filter-passes, rising-append}
 use Rattle.tp_laws.proofs.WordOfHappenings.{HasItem, item-in, items-rise}
 use Rattle.node_state.specs.Growths.{mark_of, marks_by, next_marks, rank_with}

@@ -1,4 +1,2 @@
 pub mod Outlooks
 pub mod Sprouting
-pub mod Endings
-pub mod OneWorker

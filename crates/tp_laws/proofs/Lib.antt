@@ -6,7 +6,6 @@ pub mod Readings
 pub mod Ends
 pub mod EarlyLists
 pub mod EarlyReading
-pub mod EarlyCover
 pub mod ClockKth
 pub mod ClockOpens
 pub mod ClockCandidates
@@ -17,7 +16,7 @@ pub mod Extremes
 pub mod ScheduleMixes
 pub mod SchedulesTold
 pub mod ExtremeSchedules
-pub mod Runs
+pub mod Members
 pub mod InstantActs
 pub mod InstantTicks
 pub mod InstantJoins

@@ -12,7 +12,7 @@ use Rattle.tp_spec.specs.Items.{is_durative}
 use Rattle.tp_spec.specs.Courses.{stands}
 use Rattle.tp_spec.specs.Words.{acts_of}
 use Rattle.tp_laws.proofs.EarlyLists.{each-map, each-in, each-push, in-right}
-use Rattle.tp_laws.proofs.Runs.{in-append}
+use Rattle.tp_laws.proofs.Members.{in-append}
 use Rattle.tp_laws.proofs.PlanOfBeside.{Beside, beside-push, Pairs}
 use Rattle.tp_laws.proofs.PlanOfOrders.{Plays, Ranged, Turn, Earlier, pairs-back, pairs-across}
 use Rattle.tp_laws.proofs.PlanOfClocks.{Emits, ticks-more}

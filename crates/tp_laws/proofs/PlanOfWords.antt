@@ -15,7 +15,7 @@ use Rattle.tp_spec.specs.Items.{all_items}
 use Rattle.tp_spec.specs.Courses.{happening, stands}
 use Rattle.tp_spec.specs.Words.{groups, marked, spelled, timed_of}
 use Rattle.tp_laws.proofs.EarlyLists.{in-left, in-right}
-use Rattle.tp_laws.proofs.Runs.{map-in}
+use Rattle.tp_laws.proofs.Members.{map-in}
 use Rattle.tp_laws.proofs.WordOfLists.{filter-in, range-in}
 use Rattle.tp_laws.proofs.PlanOfOrders.{Plays}
 use Rattle.tp_laws.proofs.PlanOfTicks.{groups_at, tick_before, tick-opened}

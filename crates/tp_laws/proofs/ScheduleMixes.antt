@@ -17,7 +17,7 @@ use Rattle.tp_spec.specs.Words.{Act, acts_of, groups, timed_of}
 use Rattle.tp_spec.specs.Schedules.{Schedule, IsSchedule, IsInLength, IsOnTime, acts_by, commits_by, finish}
 use Rattle.tp_laws.specs.Clocks.{HasActsInGroups}
 use Rattle.tp_laws.proofs.ClockCommits.{in_get}
-use Rattle.tp_laws.proofs.Runs.{in-filter}
+use Rattle.tp_laws.proofs.Members.{in-filter}
 
 -- an operation on ticks that keeps order and distance
 pub record IsMix (op : ℕ → ℕ → ℕ) : Type 0 where

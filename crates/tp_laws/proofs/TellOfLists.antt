@@ -14,7 +14,7 @@ use Rattle.tp_spec.specs.Items.{all_items, item_before, kind_index, number}
 use Rattle.tp_spec.specs.Words.{is_start_of, is_end_of}
 use Rattle.tp_laws.proofs.EarlyLists.{Rising, in-left, in-right, each-in, each-map, range-rises}
 use Rattle.tp_laws.proofs.ClockActs.{each-append}
-use Rattle.tp_laws.proofs.Runs.{map-in}
+use Rattle.tp_laws.proofs.Members.{map-in}
 use Rattle.tp_laws.proofs.WordOfLists.{range-in}
 
 pub any-map : {A B : Type 0} (test : B → Bool) (f : A → B) (xs : List A) → list_any test (map f xs) ≡ list_any (λ x. test (f x)) xs

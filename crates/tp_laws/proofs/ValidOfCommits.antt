@@ -9,7 +9,7 @@ use Rattle.tp_spec.specs.Courses.{same_act, has_act}
 use Rattle.tp_spec.specs.Words.{Act}
 use Rattle.tp_spec.specs.Schedules.{Schedule, IsOnTime, finish, timed_act, acts_by, commits_by, awaited, without_first}
 use Rattle.tp_laws.proofs.EarlyLists.{true-each}
-use Rattle.tp_laws.proofs.Runs.{in-filter, map-in}
+use Rattle.tp_laws.proofs.Members.{in-filter, map-in}
 use Rattle.tp_laws.proofs.WordOfLists.{filter-in}
 use Rattle.tp_laws.proofs.ClockCommits.{in_get}
 use Rattle.tp_laws.proofs.ClockActs.{there}

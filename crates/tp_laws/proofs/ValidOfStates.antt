@@ -22,7 +22,7 @@ use Rattle.tp_laws.proofs.States.{next-none}
 use Rattle.tp_laws.proofs.Readings.{read_on-append, before-joining, group-joining, past-marked}
 use Rattle.tp_laws.proofs.EarlyReading.{Opens, spelled-rest, follow-front, follow-back, grown, Chain, chain-to, marked-follow, only-apart}
 use Rattle.tp_laws.proofs.EarlyLists.{each-in, each-true, true-each, in-right}
-use Rattle.tp_laws.proofs.Runs.{map-in}
+use Rattle.tp_laws.proofs.Members.{map-in}
 use Rattle.tp_laws.proofs.WordOfLists.{range-in, filter-in}
 use Rattle.tp_laws.proofs.ValidOfLists.{Pairs, each-of, any-true}
 

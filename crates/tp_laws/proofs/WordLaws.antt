@@ -1,7 +1,5 @@
 -- What the search needs of words and plans, together.
-use Rattle.std.proofs.Common.{refl, []}
 use Rattle.tp_laws.specs.Plans.{OfFormed, GroupsAreHappenings, CompleteWordsAreSpelled, WordLaws}
-use Rattle.tp_laws.proofs.EarlyCover.{FrontsLive}
 use Rattle.tp_laws.proofs.WordOfPlans.{spell-sound, spell-whole}
 use Rattle.tp_laws.proofs.PlanOfLaws.{live-fronts}
 use Rattle.tp_laws.proofs.TellOfTicks.{are-happenings, spelled-word}
@@ -20,7 +18,3 @@ word-laws p l formed = record {
   spelled = words-spelled p l formed;
   possible = words-possible groups-happen words-spelled p l formed;
 }
-
--- each front of a possible plan's word is live, at every clock and while nothing is dispatched
-pub fronts-live : OfFormed FrontsLive
-fronts-live p l formed now plan front possible begins = (word-laws p l formed).fronts now [] plan front refl possible begins

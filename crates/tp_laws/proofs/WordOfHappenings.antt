@@ -12,7 +12,7 @@ use Rattle.tp_spec.specs.Items.{all_items, item_before, is_durative, is_durative
 use Rattle.tp_spec.specs.Courses.{stands, happening}
 use Rattle.tp_spec.specs.Words.{is_start_of, is_end_of, timed_count}
 use Rattle.tp_laws.proofs.EarlyLists.{Rising, rising-filter, range-rises, in-left, in-right, filter-map}
-use Rattle.tp_laws.proofs.Runs.{in-filter, in-append, in-map, map-in}
+use Rattle.tp_laws.proofs.Members.{in-filter, in-append, in-map, map-in}
 use Rattle.tp_laws.proofs.WordOfLists.{same-tests, any-in, in-any, filter-in, filter-passes, range-in, in-range, count-places, some-below, rising-append}
 
 -- which items a problem has

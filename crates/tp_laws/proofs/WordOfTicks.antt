@@ -18,7 +18,7 @@ use Rattle.tp_spec.specs.Words.{Progress, Follow, in_turn, may_join, closes, kee
 use Rattle.tp_laws.proofs.Readings.{read_on-append, before-joining, group-joining, state_before-spelled}
 use Rattle.tp_laws.proofs.EarlyLists.{Rising, each-in, in-right, in-left}
 use Rattle.tp_laws.proofs.EarlyReading.{follow-append}
-use Rattle.tp_laws.proofs.Runs.{in-append}
+use Rattle.tp_laws.proofs.Members.{in-append}
 use Rattle.tp_laws.proofs.WordOfLists.{all-in, in-all, rising-around}
 use Rattle.tp_laws.proofs.WordOfHappenings.{in-happening, happening-in, happening-rises, HasItem, end-any, ends-happen, starts-happen, times, times-happen}
 use Rattle.tp_laws.proofs.WordOfMarks.{running-joining, timed-joining, timed-marked, runs-marked, shut-marked, fits-after, may-join, pair-around, follow-marked}

@@ -1,7 +1,6 @@
 pub mod Examples
 pub mod Laws
 pub mod Clocks
-pub mod Histories
 pub mod Plans
 pub mod Instants
 pub mod InstantExamples

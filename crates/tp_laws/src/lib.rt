@@ -4,7 +4,6 @@
 
 mod clocks;
 mod examples;
-mod histories;
 mod instants;
 mod laws;
 mod plans;
@@ -16,7 +15,6 @@ pub use examples::{
     busy_histories, goal_at_start, invariants_given_together, printed_texts, spelled_words,
     states_after, unsafe_plans,
 };
-pub use histories::{histories_in_parts, states_of_runs, takes_of_nodes};
 pub use instants::{
     deadlines_of_instants, empty_word, outlooks_by_mark, starts_among_timed_items,
     starts_at_the_horizon,

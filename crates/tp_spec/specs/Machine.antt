@@ -15,11 +15,6 @@ use Rattle.tp_spec.specs.Courses.{Possible}
 use Rattle.tp_spec.specs.Words.{spell, progress, state_past, Progress, Act, acts_of}
 use Rattle.tp_spec.specs.Schedules.{Schedule, Live, IsGreatest, IsLeast, timed_act, plan_of}
 
--- What of the machine is built: while nothing is dispatched, no best node is urgent. This early
--- machine is the whole one with this set to false.
-abbrev pub dispatches : Bool
-dispatches = false
-
 abbrev pub unmet_goals : Problem → Progress → ℕ
 unmet_goals p c =
     if has_after p c.before c.group then count_by (λ g. not (holds (state_past p c) g)) p.goal
@@ -103,7 +98,7 @@ pub record IsQuiet (p : Problem) (l : Limits) (m : Machine) : Type 0 where
   pub node : Node
   pub best : IsBest p m.nodes node
   pub live : Live p l m.now m.commits node.word
-  pub not_urgent : dispatches ≡ true → (act : Timed) → ¬ (IsDue p l m act)
+  pub not_urgent : (act : Timed) → ¬ (IsDue p l m act)
 
 -- an outcome stands, or the best node needs nothing at once
 abbrev pub IsSettled : Problem → Limits → Machine → Type 0
@@ -156,7 +151,6 @@ pub record DropIsLegal (p : Problem) (l : Limits) (m : Machine) (id : ℕ) : Typ
       → ¬ (BeginsWith (spell p plan) node.word)
 
 pub record DispatchIsLegal (p : Problem) (l : Limits) (m : Machine) (act : Timed) : Type 0 where
-  pub built : dispatches ≡ true
   pub in_turn : IsInTurn m
   pub due : IsDue p l m act
 

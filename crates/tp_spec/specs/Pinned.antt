@@ -29,7 +29,7 @@ use Rattle.tp_spec.specs.Courses.{in_range, happening, runs_at, act_before, stat
 use Rattle.tp_spec.specs.Lists.{IsIn, BeginsWith, each_pair, each_next}
 use Rattle.tp_spec.specs.Words.{spell, runs_after, in_turn, may_join, closes, may_follow, at_start, progress, Sound, groups, Act, acts_of, timed_of}
 use Rattle.tp_spec.specs.Schedules.{Schedule, finish, awaited, IsSchedule, Live, IsGreatest, IsLeast, timed_act, plan_of}
-use Rattle.tp_spec.specs.Machine.{dispatches, IsQuiet, IsSettled, IsRun, IsWholeRun, IsCovered, candidate, unmet_goals, no_worse, mark_before, open_nodes, IsBest, AreLiveMarks, TakeIsLegal, Machine, Node, first, step, readings, ticks, Legal, IsDue, ExpandIsLegal, PublishIsLegal, LimitIsLegal, DropIsLegal, ExhaustIsLegal}
+use Rattle.tp_spec.specs.Machine.{IsQuiet, IsSettled, IsRun, IsWholeRun, IsCovered, candidate, unmet_goals, no_worse, mark_before, open_nodes, IsBest, AreLiveMarks, TakeIsLegal, Machine, Node, first, step, readings, ticks, Legal, IsDue, ExpandIsLegal, PublishIsLegal, LimitIsLegal, DropIsLegal, ExhaustIsLegal}
 use Rattle.tp_spec.specs.Following.{turn_events, last_take, rests_in, most_rests, is_busy_turn, IsBusy}
 use Rattle.tp_spec.specs.Samples.{sample, two, problem, instant, mixed, sharing, raising, act, plan, limits, guarded, opens, joins, reading, timings, at_five, schedule, word_act, node}
 
@@ -845,11 +845,11 @@ Settled = (p : Problem) (l : Limits) (m : Machine)
     × (IsQuiet p l m → IsSettled p l m)
     × (IsSettled p l m → m.over ≡ false → IsQuiet p l m)
 
--- Where the machine is quiet the best node is live, and no act is due once acts are dispatched.
+-- Where the machine is quiet the best node is live, and no act is due.
 abbrev pub Quiet : Type 0
 Quiet = (p : Problem) (l : Limits) (m : Machine) → IsQuiet p l m
     → ((n : Node) × IsBest p m.nodes n × Live p l m.now m.commits n.word)
-    × (dispatches ≡ true → (act : Timed) → ¬ (IsDue p l m act))
+    × ((act : Timed) → ¬ (IsDue p l m act))
 
 -- In a run each event is legal after those before it, and a whole run ends settled.
 abbrev pub Runs : Type 0

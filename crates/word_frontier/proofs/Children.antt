@@ -49,25 +49,25 @@ live-below now k children d h e = let n = live-count now k children d h e in let
 
 -- children behind others
 
-children-push : (base : List RankedNode) (w : List Mark) (made j : ℕ) (children : List Child) (c : Child) → j ≡ made + length children
-    → (base ++ children_from w made children) ++ child_of j w c ∷ [] ≡ base ++ children_from w made (children ++ c ∷ [])
-children-push [] w made j [] c n = ap (λ i. child_of i w c ∷ []) (let p : j ≡ made = omega arith in p)
-children-push [] w made j (d ∷ children) c n = ap (λ rest. child_of made w d ∷ rest) (children-push [] w (suc made) j children c (omega arith))
-children-push (b ∷ base) w made j children c n = ap (λ rest. b ∷ rest) (children-push base w made j children c n)
+children-push : (known : ℕ) (base : List RankedNode) (w : List Mark) (made j : ℕ) (children : List Child) (c : Child) → j ≡ made + length children
+    → (base ++ children_from known w made children) ++ child_of known j w c ∷ [] ≡ base ++ children_from known w made (children ++ c ∷ [])
+children-push known [] w made j [] c n = ap (λ i. child_of known i w c ∷ []) (let p : j ≡ made = omega arith in p)
+children-push known [] w made j (d ∷ children) c n = ap (λ rest. child_of known made w d ∷ rest) (children-push known [] w (suc made) j children c (omega arith))
+children-push known (b ∷ base) w made j children c n = ap (λ rest. b ∷ rest) (children-push known base w made j children c n)
 
 -- children have later ids than the node that leaves
-without-children : (w : List Mark) (id made : ℕ) (children : List Child) → id < made → without id (children_from w made children) ≡ children_from w made children
-without-children w id made [] h = refl
-without-children w id made (c ∷ children) h =
-    let rest = children_from w (suc made) children in
-    ap (λ b. cond (not b) (child_of made w c ∷ without id rest) (without id rest)) (above made id h) ∙ ap (λ r. child_of made w c ∷ r) (without-children w id (suc made) children (omega arith))
+without-children : (known : ℕ) (w : List Mark) (id made : ℕ) (children : List Child) → id < made → without id (children_from known w made children) ≡ children_from known w made children
+without-children known w id made [] h = refl
+without-children known w id made (c ∷ children) h =
+    let rest = children_from known w (suc made) children in
+    ap (λ b. cond (not b) (child_of known made w c ∷ without id rest) (without id rest)) (above made id h) ∙ ap (λ r. child_of known made w c ∷ r) (without-children known w id (suc made) children (omega arith))
 
-without-family : (base : List RankedNode) (w : List Mark) (id made : ℕ) (children : List Child) → id < made → without id (base ++ children_from w made children) ≡ without id base ++ children_from w made children
-without-family [] w id made children h = without-children w id made children h
-without-family (b ∷ base) w id made children h =
-    elim (b.id == id) as (λ t. cond (not t) (b ∷ without id (base ++ children_from w made children)) (without id (base ++ children_from w made children)) ≡ cond (not t) (b ∷ without id base) (without id base) ++ children_from w made children) [
-      | true ↦ without-family base w id made children h
-      | false ↦ ap (λ r. b ∷ r) (without-family base w id made children h)
+without-family : (known : ℕ) (base : List RankedNode) (w : List Mark) (id made : ℕ) (children : List Child) → id < made → without id (base ++ children_from known w made children) ≡ without id base ++ children_from known w made children
+without-family known [] w id made children h = without-children known w id made children h
+without-family known (b ∷ base) w id made children h =
+    elim (b.id == id) as (λ t. cond (not t) (b ∷ without id (base ++ children_from known w made children)) (without id (base ++ children_from known w made children)) ≡ cond (not t) (b ∷ without id base) (without id base) ++ children_from known w made children) [
+      | true ↦ without-family known base w id made children h
+      | false ↦ ap (λ r. b ∷ r) (without-family known base w id made children h)
     ]
 
 -- the word of a node that an actor took
@@ -104,34 +104,34 @@ given-id w id made nodes s h = subst (λ j. j < made) s.id_is (less s.node.id ma
     less a b h = grind (arith, nat_tests)
 
 -- one child more of a node that an actor took
-pub entered-at : (base now new : List RankedNode) (a id made j clock k : ℕ) (children : List Child) (d : Child) → is_taken a id base ≡ true → k < length children → nat_le clock (get_or children k d).deadline ≡ true
-    → j ≡ made + length (live_at clock (take k children)) → now ≡ base ++ children_from (word_at id base) made (live_at clock (take k children))
-    → ((w : List Mark) → StandsAt w id now → new ≡ now ++ child_of j w (get_or children k d) ∷ []) → new ≡ base ++ children_from (word_at id base) made (live_at clock (take (k + 1) children))
-entered-at base now new a id made j clock k children d taken lt live n is grown =
+pub entered-at : (known : ℕ) (base now new : List RankedNode) (a id made j clock k : ℕ) (children : List Child) (d : Child) → is_taken a id base ≡ true → k < length children → nat_le clock (get_or children k d).deadline ≡ true
+    → j ≡ made + length (live_at clock (take k children)) → now ≡ base ++ children_from known (word_at id base) made (live_at clock (take k children))
+    → ((w : List Mark) → StandsAt w id now → new ≡ now ++ child_of known j w (get_or children k d) ∷ []) → new ≡ base ++ children_from known (word_at id base) made (live_at clock (take (k + 1) children))
+entered-at known base now new a id made j clock k children d taken lt live n is grown =
     let w : List Mark = word_at id base in
     let old : List Child = live_at clock (take k children) in
-    let stands = subst (λ (xs : List RankedNode). StandsAt w id xs) (sym is) (stands-more w id base (children_from w made old) (stands-taken a id base taken)) in
-    grown w stands ∙ ap (λ xs. xs ++ child_of j w (get_or children k d) ∷ []) is ∙ children-push base w made j old (get_or children k d) n
-    ∙ ap (λ cs. base ++ children_from w made cs) (sym (live-yes clock k children d lt live))
+    let stands = subst (λ (xs : List RankedNode). StandsAt w id xs) (sym is) (stands-more w id base (children_from known w made old) (stands-taken a id base taken)) in
+    grown w stands ∙ ap (λ xs. xs ++ child_of known j w (get_or children k d) ∷ []) is ∙ children-push known base w made j old (get_or children k d) n
+    ∙ ap (λ cs. base ++ children_from known w made cs) (sym (live-yes clock k children d lt live))
 
 -- all children are there, and the node leaves
-pub expanded : (base now new : List RankedNode) (a id made clock k : ℕ) (children : List Child) → is_taken a id base ≡ true → list_all (λ (n : RankedNode). nat_lt n.id made) base ≡ true → length children ≤ k
-    → now ≡ base ++ children_from (word_at id base) made (live_at clock (take k children)) → new ≡ without id now → new ≡ without id base ++ children_from (word_at id base) made (live_at clock children)
-expanded base now new a id made clock k children taken below all is left =
+pub expanded : (known : ℕ) (base now new : List RankedNode) (a id made clock k : ℕ) (children : List Child) → is_taken a id base ≡ true → list_all (λ (n : RankedNode). nat_lt n.id made) base ≡ true → length children ≤ k
+    → now ≡ base ++ children_from known (word_at id base) made (live_at clock (take k children)) → new ≡ without id now → new ≡ without id base ++ children_from known (word_at id base) made (live_at clock children)
+expanded known base now new a id made clock k children taken below all is left =
     let w : List Mark = word_at id base in
-    left ∙ ap (without id) (is ∙ ap (λ cs. base ++ children_from w made (live_at clock cs)) (take_all k children all))
-    ∙ without-family base w id made (live_at clock children) (given-id w id made base (stands-taken a id base taken) below)
+    left ∙ ap (without id) (is ∙ ap (λ cs. base ++ children_from known w made (live_at clock cs)) (take_all k children all))
+    ∙ without-family known base w id made (live_at clock children) (given-id w id made base (stands-taken a id base taken) below)
 
 -- what stands once some of the children were seen
-pub record Grown (old new : FrontierView) (id clock k : ℕ) (children : List Child) : Type 0 where
-  pub nodes : new.nodes ≡ old.nodes ++ children_from (word_at id old.nodes) old.made (live_at clock (take k children))
+pub record Grown (known : ℕ) (old new : FrontierView) (id clock k : ℕ) (children : List Child) : Type 0 where
+  pub nodes : new.nodes ≡ old.nodes ++ children_from known (word_at id old.nodes) old.made (live_at clock (take k children))
   pub made : new.made ≡ old.made + length (live_at clock (take k children))
   pub ranks : new.ranks ≡ old.ranks
   pub room : old.room ≤ new.room + length (live_at clock (take k children))
 
 -- what a child's coming in does
-pub record Entered (now new : FrontierView) (id : ℕ) (c : Child) : Type 0 where
-  pub nodes : (w : List Mark) → StandsAt w id now.nodes → new.nodes ≡ now.nodes ++ child_of now.made w c ∷ []
+pub record Entered (known : ℕ) (now new : FrontierView) (id : ℕ) (c : Child) : Type 0 where
+  pub nodes : (w : List Mark) → StandsAt w id now.nodes → new.nodes ≡ now.nodes ++ child_of known now.made w c ∷ []
   pub made : new.made ≡ now.made + 1
   pub ranks : new.ranks ≡ now.ranks
   pub room : now.room ≤ new.room + 1
@@ -142,22 +142,22 @@ yes a b h = grind (arith, nat_tests)
 no : (a b : ℕ) → b < a → nat_le a b ≡ false
 no a b h = grind (arith, nat_tests)
 
-pub grown-yes : (old now new : FrontierView) (a id clock k : ℕ) (children : List Child) (d : Child) → is_taken a id old.nodes ≡ true → Grown old now id clock k children → k < length children → clock ≤ (get_or children k d).deadline
-    → Entered now new id (get_or children k d) → Grown old new id clock (k + 1) children
-grown-yes old now new a id clock k children d taken g lt live e =
+pub grown-yes : (known : ℕ) (old now new : FrontierView) (a id clock k : ℕ) (children : List Child) (d : Child) → is_taken a id old.nodes ≡ true → Grown known old now id clock k children → k < length children → clock ≤ (get_or children k d).deadline
+    → Entered known now new id (get_or children k d) → Grown known old new id clock (k + 1) children
+grown-yes known old now new a id clock k children d taken g lt live e =
     let t = yes clock (get_or children k d).deadline live in
     let n = live-count clock k children d lt t in record {
-      nodes = entered-at old.nodes now.nodes new.nodes a id old.made now.made clock k children d taken lt t g.made g.nodes e.nodes;
+      nodes = entered-at known old.nodes now.nodes new.nodes a id old.made now.made clock k children d taken lt t g.made g.nodes e.nodes;
       made = let p = e.made in let q = g.made in omega (arith, n, p, q);
       ranks = e.ranks ∙ g.ranks;
       room = let p = e.room in let q = g.room in omega (arith, n, p, q);
     }
 
-pub grown-no : (old now : FrontierView) (id clock k : ℕ) (children : List Child) (d : Child) → Grown old now id clock k children → k < length children → (get_or children k d).deadline < clock → Grown old now id clock (k + 1) children
-grown-no old now id clock k children d g lt dead =
+pub grown-no : (known : ℕ) (old now : FrontierView) (id clock k : ℕ) (children : List Child) (d : Child) → Grown known old now id clock k children → k < length children → (get_or children k d).deadline < clock → Grown known old now id clock (k + 1) children
+grown-no known old now id clock k children d g lt dead =
     let same = live-no clock k children d lt (no clock (get_or children k d).deadline dead) in
     let n = ap length same in record {
-      nodes = g.nodes ∙ ap (λ cs. old.nodes ++ children_from (word_at id old.nodes) old.made cs) (sym same);
+      nodes = g.nodes ∙ ap (λ cs. old.nodes ++ children_from known (word_at id old.nodes) old.made cs) (sym same);
       made = let q = g.made in omega (arith, n, q);
       ranks = g.ranks;
       room = let q = g.room in omega (arith, n, q);

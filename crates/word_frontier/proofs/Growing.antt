@@ -48,17 +48,17 @@ linked-some slots m t s lies =
 
 -- the node of a slot that comes in
 abbrev pub comer : List Slot → ℕ → Slot → RankedNode
-comer slots m s = record { id = m; word = word-at slots s.parent ++ mark_of s ∷ []; rank = s.rank; deadline = s.deadline; taker = None }
+comer slots m s = record { id = m; word = word-at slots s.parent ++ mark_of s ∷ []; rank = s.rank; deadline = s.deadline; known = s.known; taker = None }
 
-held-open : (w : List Mark) (s : Slot) → s.state ≡ Open → held w s ≡ Some (record { word = w; rank = s.rank; deadline = s.deadline; taker = None })
-held-open w s e = ap (λ u. (let o : Option Held = cond (counts among.All u) (Some (let h : Held = record { word = w; rank = s.rank; deadline = s.deadline; taker = taker_of u s.taker } in h)) None in o)) e
+held-open : (w : List Mark) (s : Slot) → s.state ≡ Open → held w s ≡ Some (record { word = w; rank = s.rank; deadline = s.deadline; known = s.known; taker = None })
+held-open w s e = ap (λ u. (let o : Option Held = cond (counts among.All u) (Some (let h : Held = record { word = w; rank = s.rank; deadline = s.deadline; known = s.known; taker = taker_of u s.taker } in h)) None in o)) e
 
 pub nodes-push : (slots slots' : List Slot) (last : Option ℕ) (m : ℕ) (s : Slot) → Linked slots slots' last m → 0 < length slots → m ≡ length slots → s.state ≡ Open → nodes_of (slots' ++ s ∷ []) ≡ nodes_of slots ++ comer slots m s ∷ []
 nodes-push slots slots' last m s l some e free =
     let steps : List Step = map step_of slots in
     let w : List Mark = word-at slots s.parent ++ mark_of s ∷ [] in
     let n = length-map slots step_of in
-    let h : Held = record { word = w; rank = s.rank; deadline = s.deadline; taker = None } in
+    let h : Held = record { word = w; rank = s.rank; deadline = s.deadline; known = s.known; taker = None } in
     let grown : words_of (map step_of (slots' ++ s ∷ [])) ≡ words_of (map step_of slots') ++ w ∷ [] =
     ap words_of (map_push step_of slots' s ∙ ap (λ (ss : List Step). ss ++ step_of s ∷ []) l.steps) ∙ words_of-push steps (step_of s) (omega (arith, n, some)) ∙ sym (ap (λ (ss : List Step). words_of ss ++ w ∷ []) l.steps) in
     let helds-are : helds_of (slots' ++ s ∷ []) ≡ helds_of slots ++ Some h ∷ [] =
@@ -191,11 +191,11 @@ stands-word slots w id h =
     let p = place-of slots h.node h.there in
     ap (word-at slots) (sym h.id_is) ∙ sym (ap (λ (n : RankedNode). n.word) p.is) ∙ h.word_is
 
-pub enters-nodes : (slots slots' grown : List Slot) (last : Option ℕ) (m parent rank : ℕ) (s : Slot) (w : List Mark) (child : Child) → Linked slots slots' last m → 0 < length slots → Comes slots m parent rank s
-    → grown ≡ slots' ++ s ∷ [] → mark_of s ≡ child.mark → rank ≡ child.rank → s.deadline ≡ child.deadline → StandsAt w parent (nodes_of slots) → nodes_of grown ≡ nodes_of slots ++ child_of m w child ∷ []
-enters-nodes slots slots' grown last m parent rank s w child l some c g mark-is rank-of deadline-is h =
+pub enters-nodes : (slots slots' grown : List Slot) (last : Option ℕ) (m parent rank : ℕ) (s : Slot) (w : List Mark) (child : Child) (known : ℕ) → Linked slots slots' last m → 0 < length slots → Comes slots m parent rank s
+    → grown ≡ slots' ++ s ∷ [] → mark_of s ≡ child.mark → rank ≡ child.rank → s.deadline ≡ child.deadline → s.known ≡ known → StandsAt w parent (nodes_of slots) → nodes_of grown ≡ nodes_of slots ++ child_of known m w child ∷ []
+enters-nodes slots slots' grown last m parent rank s w child known l some c g mark-is rank-of deadline-is known-is h =
     let word-is : word-at slots s.parent ≡ w = ap (word-at slots) c.parent_is ∙ stands-word slots w parent h in
     let rank-is : s.rank ≡ child.rank = c.rank_is ∙ rank-of in
-    let node-is : comer slots m s ≡ child_of m w child =
-    (λ i. let n : RankedNode = record { id = m; word = word-is i ++ mark-is i ∷ []; rank = rank-is i; deadline = deadline-is i; taker = None } in n) in
+    let node-is : comer slots m s ≡ child_of known m w child =
+    (λ i. let n : RankedNode = record { id = m; word = word-is i ++ mark-is i ∷ []; rank = rank-is i; deadline = deadline-is i; known = known-is i; taker = None } in n) in
     ap nodes_of g ∙ nodes-push slots slots' last m s l some c.next c.state ∙ ap (λ (n : RankedNode). nodes_of slots ++ n ∷ []) node-is

@@ -12,12 +12,12 @@ use Rattle.word_frontier.specs.declared.slot.Among.TheVariants as among
 use Rattle.word_frontier.specs.declared.slot.State.{State}
 use Rattle.word_frontier.specs.declared.slot.State.TheVariants.{Open, Taken, Gone}
 use Rattle.word_frontier.specs.declared.frontier.Standing.{Standing}
-use Rattle.word_frontier.specs.Nodes.{RankedNode, NodeView, Tells, IsCopy, is_open, IsLeast, taken_by, without, has_id, is_taken, open_nodes}
+use Rattle.word_frontier.specs.Nodes.{RankedNode, NodeView, Tells, IsCopy, is_open, IsLeast, taken_by, renewed, without, has_id, is_taken, open_nodes}
 use Rattle.word_frontier.specs.Slots.{Step, Held, held, helds, helds_of, nodes_from, nodes_of, node_in, counts, taker_of, taken_in, key, keys, ranks_of, links_of, step_of, word_of, words_of, head_at, GoBack, IsFirst, FirstAt, AreHeads, IsLast, AreChained, IsKept, LeastHead, IsOfRank, HeadMoved}
 use Rattle.word_frontier.proofs.Words.{words_of-length}
 use Rattle.word_frontier.proofs.Places.{equal, equals, none_some, some_same, map-get, item-of, lies-of, AreFewer, AgreeBut, heads-moved, fewer-set, agree-set}
 use Rattle.word_frontier.proofs.Chain.{Counted, counted, key-of, ranked}
-use Rattle.word_frontier.proofs.Nodes.{without-at, taken-at, taken_there, is_taken-at, stood, is_in, kept, kept-of, any-found, Mirrors, least-of, least-same, none-of, helds-length, helds-get, helds-set}
+use Rattle.word_frontier.proofs.Nodes.{without-at, taken-at, renewed-at, taken_there, is_taken-at, stood, is_in, kept, kept-of, any-found, Mirrors, least-of, least-same, none-of, helds-length, helds-get, helds-set}
 
 pub words-slots : (slots : List Slot) → length (words_of (map step_of slots)) ≡ length slots
 words-slots slots = words_of-length (map step_of slots) ∙ length-map slots step_of
@@ -35,7 +35,7 @@ get-slot slots id s h = helds-get (words_of (map step_of slots)) slots id s (wor
 -- nodes and their slots
 
 abbrev pub held-in : List Mark → Slot → Held
-held-in w s = record { word = w; rank = s.rank; deadline = s.deadline; taker = taker_of s.state s.taker }
+held-in w s = record { word = w; rank = s.rank; deadline = s.deadline; known = s.known; taker = taker_of s.state s.taker }
 
 held-some : (b : Bool) (h k : Held) → cond b (Some h) None ≡ Some k → (b ≡ true) × (k ≡ h)
 held-some true h k e = (refl, sym (some_same e))
@@ -101,11 +101,15 @@ mirrors-open slots = record {
 
 -- what a node's slot has
 
-pub deadline-at : (slots : List Slot) (n : RankedNode) (id : ℕ) (d : Slot) → IsIn n (nodes_of slots) → n.id ≡ id → (get_or slots id d).deadline ≡ n.deadline
-deadline-at slots n id d h e =
+pub tells-of : (slots : List Slot) (n : RankedNode) (id : ℕ) (x : Slot) → IsIn n (nodes_of slots) → n.id ≡ id → x ≡ get_or slots id x
+    → Tells (let f : Standing = record { id = id; deadline = x.deadline; known = x.known } in f) n
+tells-of slots n id x h e read =
     let p = place-of slots n h in
-    let read : get_or slots n.id d ≡ p.slot = get_or_from_slice_get slots n.id p.slot d p.lies in
-    ap (λ j. (get_or slots j d).deadline) (sym e) ∙ ap (λ (s : Slot). s.deadline) read ∙ sym (ap (λ (m : RankedNode). m.deadline) p.is)
+    let is : x ≡ p.slot = read ∙ ap (λ j. get_or slots j x) (sym e) ∙ get_or_from_slice_get slots n.id p.slot x p.lies in record {
+      id = sym e;
+      deadline = ap (λ (s : Slot). s.deadline) is ∙ sym (ap (λ (m : RankedNode). m.deadline) p.is);
+      known = ap (λ (s : Slot). s.known) is ∙ sym (ap (λ (m : RankedNode). m.known) p.is);
+    }
 
 pub has_id-of : (nodes : List RankedNode) (n : RankedNode) (id : ℕ) → IsIn n nodes → n.id ≡ id → has_id id nodes ≡ true
 has_id-of [] n id h e = absurd h
@@ -146,14 +150,14 @@ copy-is slots id d v h w r t =
 pub is_taken-none : (slots : List Slot) (a id : ℕ) → length slots ≤ id → is_taken a id (nodes_of slots) ≡ false
 is_taken-none slots a id h = is_taken-at a (helds_of slots) id ∙ ap (taken_there a) (slice_get_past (helds_of slots) id (let n = helds-slots slots in omega (arith, n, h)))
 
-taken-is : (t : State) (a actor : ℕ) (w : List Mark) (r d : ℕ)
-    → taken_there actor (Some (cond (counts among.All t) (Some (record { word = w; rank = r; deadline = d; taker = taker_of t a })) None)) ≡ taken_in t a actor
-taken-is Open a actor w r d = refl
-taken-is Taken a actor w r d = refl
-taken-is Gone a actor w r d = refl
+taken-is : (t : State) (a actor : ℕ) (w : List Mark) (r d k : ℕ)
+    → taken_there actor (Some (cond (counts among.All t) (Some (record { word = w; rank = r; deadline = d; known = k; taker = taker_of t a })) None)) ≡ taken_in t a actor
+taken-is Open a actor w r d k = refl
+taken-is Taken a actor w r d k = refl
+taken-is Gone a actor w r d k = refl
 
 pub is_taken-some : (slots : List Slot) (a id : ℕ) (s : Slot) → slice_get slots id ≡ Some s → is_taken a id (nodes_of slots) ≡ taken_in s.state s.taker a
-is_taken-some slots a id s h = is_taken-at a (helds_of slots) id ∙ ap (taken_there a) (get-slot slots id s h) ∙ taken-is s.state s.taker a (word-at slots id) s.rank s.deadline
+is_taken-some slots a id s h = is_taken-at a (helds_of slots) id ∙ ap (taken_there a) (get-slot slots id s h) ∙ taken-is s.state s.taker a (word-at slots id) s.rank s.deadline s.known
 
 -- a write of a slot's state
 
@@ -277,12 +281,6 @@ open-in slots n h = open-among (nodes_of slots) n h
 pub node-within : (slots : List Slot) (n : RankedNode) (id : ℕ) → IsIn n (nodes_of slots) → n.id ≡ id → id < length slots
 node-within slots n id h e = let p = place-of slots n h in subst (λ j. j < length slots) e (slice_get_within slots n.id p.slot p.lies)
 
--- what is told of the least node
-pub told : (slots : List Slot) (nodes : List RankedNode) (rank id : ℕ) (x : Slot) → (l : LeastOf nodes rank id) → IsIn l.0 (nodes_of slots) → x ≡ get_or slots id x
-    → (n : RankedNode) × IsLeast nodes n × Tells (let f : Standing = record { id = id; deadline = x.deadline } in f) n
-told slots nodes rank id x l there read =
-    (l.0, l.1.0, record { id = sym l.1.1.0; deadline = ap (λ (s : Slot). s.deadline) read ∙ deadline-at slots l.0 id x there l.1.1.0 })
-
 -- what code writes
 
 pub record Write (slots new : List Slot) (id : ℕ) (y : Slot) (t : State) (a : ℕ) : Type 0 where
@@ -339,6 +337,56 @@ leave-kept slots new lasts opens stands opens' stands' rank id y a k w is moved 
 
 pub leave-nodes : (slots new : List Slot) (id : ℕ) (y : Slot) (a : ℕ) → Write slots new id y Gone a → nodes_of new ≡ without id (nodes_of slots)
 leave-nodes slots new id y a w = ap nodes_of w.is ∙ nodes-leave slots id y a w.lies
+
+-- a write of a slot's deadline
+
+abbrev pub with-deadline : Slot → ℕ → ℕ → Slot
+with-deadline s d k = record s { deadline = d; known = k }
+
+renewed-slots : (slots : List Slot) (id : ℕ) (s : Slot) (d k : ℕ) → slice_get slots id ≡ Some s → Changed slots (set slots id (with-deadline s d k))
+renewed-slots slots id s d k lies =
+    let u : Slot = with-deadline s d k in
+    let is : get_or slots id s ≡ s = get_or_from_slice_get slots id s s lies in record {
+      steps = map-set_same step_of slots id u s (sym (ap step_of is));
+      ranks = map-set_same (λ (v : Slot). v.rank) slots id u s (sym (ap (λ (v : Slot). v.rank) is));
+      links = map-set_same (λ (v : Slot). v.link) slots id u s (sym (ap (λ (v : Slot). v.link) is));
+      size = length-set slots id u;
+    }
+
+renewed-keys : (which : Among) (slots : List Slot) (id : ℕ) (s : Slot) (d k : ℕ) → slice_get slots id ≡ Some s → keys which (set slots id (with-deadline s d k)) ≡ keys which slots
+renewed-keys which slots id s d k lies = map-set_same (key which) slots id (with-deadline s d k) s (sym (ap (key which) (get_or_from_slice_get slots id s s lies)))
+
+renewed-helds : (slots : List Slot) (id : ℕ) (s : Slot) (d k : ℕ) → slice_get slots id ≡ Some s
+    → helds_of (set slots id (with-deadline s d k)) ≡ set (helds_of slots) id (held (word-at slots id) (with-deadline s d k))
+renewed-helds slots id s d k lies =
+    let c = renewed-slots slots id s d k lies in
+    ap (λ (ss : List Step). helds (words_of ss) (set slots id (with-deadline s d k))) c.steps ∙ helds-set (words_of (map step_of slots)) slots id (with-deadline s d k) (words-slots slots)
+
+-- the slot of an id has a new deadline
+pub record Renewal (slots new : List Slot) (id d k : ℕ) : Type 0 where
+  pub slot : Slot
+  pub lies : slice_get slots id ≡ Some slot
+  pub is : new ≡ set slots id (with-deadline slot d k)
+
+pub renewal-of : (slots new : List Slot) (id : ℕ) (y y' : Slot) (d k : ℕ) → id < length slots → y ≡ get_or slots id y → y' ≡ with-deadline y d k → new ≡ set slots id y' → Renewal slots new id d k
+renewal-of slots new id y y' d k within read written is = record { slot = y; lies = lies-of slots id y within read; is = is ∙ ap (set slots id) written }
+
+pub renewal-kept : (slots new : List Slot) (lasts opens stands : List (Option ℕ)) (id d k : ℕ) → IsKept slots lasts opens stands → Renewal slots new id d k → IsKept new lasts opens stands
+renewal-kept slots new lasts opens stands id d k kept-before w =
+    subst (λ (xs : List Slot). IsKept xs lasts opens stands) (sym w.is)
+    (kept-after slots (set slots id (with-deadline w.slot d k)) lasts opens stands opens stands kept-before (renewed-slots slots id w.slot d k w.lies)
+    (subst (λ ks. AreHeads ks opens) (sym (renewed-keys among.Open slots id w.slot d k w.lies)) kept-before.open_heads)
+    (subst (λ ks. AreHeads ks stands) (sym (renewed-keys among.All slots id w.slot d k w.lies)) kept-before.heads) refl refl)
+
+pub renewal-nodes : (slots new : List Slot) (id d k : ℕ) → has_id id (nodes_of slots) ≡ true → Renewal slots new id d k → nodes_of new ≡ map (renewed id d k) (nodes_of slots)
+renewal-nodes slots new id d k h w =
+    let p = here-of slots id h in
+    let same : p.slot ≡ w.slot = some_same (sym p.lies ∙ w.lies) in
+    let stood : counts among.All w.slot.state ≡ true = ap (λ (s : Slot). counts among.All s.state) (sym same) ∙ p.stands in
+    let before = held-in (word-at slots id) w.slot in
+    ap nodes_of w.is ∙ ap (nodes_from 0) (renewed-helds slots id w.slot d k w.lies
+    ∙ ap (λ b. set (helds_of slots) id (let o : Option Held = cond b (Some (record before { deadline = d; known = k })) None in o)) stood)
+    ∙ renewed-at d k (helds_of slots) id before (held-at slots id w.slot w.lies stood)
 
 pub read-same : (slots : List Slot) (id : ℕ) (x y : Slot) → id < length slots → x ≡ get_or slots id x → slice_get slots id ≡ Some y → y ≡ x
 read-same slots id x y within read lies = some_same (sym lies ∙ lies-of slots id x within read)

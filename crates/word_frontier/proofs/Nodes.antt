@@ -6,7 +6,7 @@ use Rattle.std.specs.List.{slice_get, filter, list_all, list_any}
 use Rattle.tp_spec.specs.Lists.{IsIn, each_pair}
 use Rattle.tp_spec.specs.declared.plan.Mark.{Mark}
 use Rattle.word_frontier.specs.declared.slot.Slot.{Slot}
-use Rattle.word_frontier.specs.Nodes.{RankedNode, no_later, IsLeast, taken_by, without, is_taker, is_taken}
+use Rattle.word_frontier.specs.Nodes.{RankedNode, no_later, IsLeast, taken_by, renewed, without, is_taker, is_taken}
 use Rattle.word_frontier.specs.Slots.{Held, held, helds, node_in, nodes_from, word_of, head_at, NoneFrom, FirstAt, IsFirst, AreHeads, LeastHead}
 use Rattle.word_frontier.proofs.Places.{equal, unlike, above, some_same, none_some}
 
@@ -33,29 +33,42 @@ without-from (Some s ∷ hs) i (suc k) id e =
 pub without-at : (hs : List (Option Held)) (id : ℕ) → nodes_from 0 (set hs id None) ≡ without id (nodes_from 0 hs)
 without-at hs id = without-from hs 0 id id (omega arith)
 
--- a slot that an actor took
+-- a slot whose node changed, but for its id
 
-taken-before : (a : ℕ) (hs : List (Option Held)) (i id : ℕ) → id < i → map (taken_by a id) (nodes_from i hs) ≡ nodes_from i hs
-taken-before a [] i id h = refl
-taken-before a (None ∷ hs) i id h = taken-before a hs (suc i) id (omega arith)
-taken-before a (Some s ∷ hs) i id h =
-    ap (λ b. cond b (record (node_in i s) { taker = Some a }) (node_in i s) ∷ map (taken_by a id) (nodes_from (suc i) hs)) (above i id h)
-    ∙ ap (λ r. node_in i s ∷ r) (taken-before a hs (suc i) id (omega arith))
+-- the node of an id changes, the others stay
+abbrev pub where-id : (RankedNode → RankedNode) → ℕ → RankedNode → RankedNode
+where-id g id n = cond (n.id == id) (g n) n
 
-taken-from : (a : ℕ) (hs : List (Option Held)) (i k id : ℕ) (h : Held) → id ≡ i + k → slice_get hs k ≡ Some (Some h) → nodes_from i (set hs k (Some (record h { taker = Some a }))) ≡ map (taken_by a id) (nodes_from i hs)
-taken-from a [] i k id h e l = absurd (none_some refl l)
-taken-from a (None ∷ hs) i zero id h e l = absurd (none_some refl (some_same l))
-taken-from a (None ∷ hs) i (suc k) id h e l = taken-from a hs (suc i) k id h (omega arith) l
-taken-from a (Some s ∷ hs) i zero id h e l =
-    subst (λ p. nodes_from i (Some (record p { taker = Some a }) ∷ hs) ≡ map (taken_by a id) (node_in i s ∷ nodes_from (suc i) hs)) (some_same (some_same l))
-    (sym (ap (λ b. cond b (record (node_in i s) { taker = Some a }) (node_in i s) ∷ map (taken_by a id) (nodes_from (suc i) hs)) (equal i id (omega arith))
-    ∙ ap (λ r. record (node_in i s) { taker = Some a } ∷ r) (taken-before a hs (suc i) id (omega arith))))
-taken-from a (Some s ∷ hs) i (suc k) id h e l =
-    ap (λ r. node_in i s ∷ r) (taken-from a hs (suc i) k id h (omega arith) l)
-    ∙ sym (ap (λ b. cond b (record (node_in i s) { taker = Some a }) (node_in i s) ∷ map (taken_by a id) (nodes_from (suc i) hs)) (unlike i id (omega arith)))
+one-before : (g : RankedNode → RankedNode) (hs : List (Option Held)) (i id : ℕ) → id < i → map (where-id g id) (nodes_from i hs) ≡ nodes_from i hs
+one-before g [] i id h = refl
+one-before g (None ∷ hs) i id h = one-before g hs (suc i) id (omega arith)
+one-before g (Some s ∷ hs) i id h =
+    ap (λ b. cond b (g (node_in i s)) (node_in i s) ∷ map (where-id g id) (nodes_from (suc i) hs)) (above i id h)
+    ∙ ap (λ r. node_in i s ∷ r) (one-before g hs (suc i) id (omega arith))
+
+-- what changes a node, and the same where it is held
+abbrev pub Agree : (Held → Held) → (RankedNode → RankedNode) → Type 0
+Agree f g = (i : ℕ) (h : Held) → node_in i (f h) ≡ g (node_in i h)
+
+one-from : (f : Held → Held) (g : RankedNode → RankedNode) (agree : Agree f g) (hs : List (Option Held)) (i k id : ℕ) (h : Held) → id ≡ i + k → slice_get hs k ≡ Some (Some h)
+    → nodes_from i (set hs k (Some (f h))) ≡ map (where-id g id) (nodes_from i hs)
+one-from f g agree [] i k id h e l = absurd (none_some refl l)
+one-from f g agree (None ∷ hs) i zero id h e l = absurd (none_some refl (some_same l))
+one-from f g agree (None ∷ hs) i (suc k) id h e l = one-from f g agree hs (suc i) k id h (omega arith) l
+one-from f g agree (Some s ∷ hs) i zero id h e l =
+    subst (λ p. nodes_from i (Some (f p) ∷ hs) ≡ map (where-id g id) (node_in i s ∷ nodes_from (suc i) hs)) (some_same (some_same l))
+    (ap (λ (n : RankedNode). n ∷ nodes_from (suc i) hs) (agree i s)
+    ∙ sym (ap (λ b. cond b (g (node_in i s)) (node_in i s) ∷ map (where-id g id) (nodes_from (suc i) hs)) (equal i id (omega arith))
+    ∙ ap (λ r. g (node_in i s) ∷ r) (one-before g hs (suc i) id (omega arith))))
+one-from f g agree (Some s ∷ hs) i (suc k) id h e l =
+    ap (λ r. node_in i s ∷ r) (one-from f g agree hs (suc i) k id h (omega arith) l)
+    ∙ sym (ap (λ b. cond b (g (node_in i s)) (node_in i s) ∷ map (where-id g id) (nodes_from (suc i) hs)) (unlike i id (omega arith)))
 
 pub taken-at : (a : ℕ) (hs : List (Option Held)) (id : ℕ) (h : Held) → slice_get hs id ≡ Some (Some h) → nodes_from 0 (set hs id (Some (record h { taker = Some a }))) ≡ map (taken_by a id) (nodes_from 0 hs)
-taken-at a hs id h l = taken-from a hs 0 id id h (omega arith) l
+taken-at a hs id h l = one-from (λ (x : Held). record x { taker = Some a }) (λ (n : RankedNode). record n { taker = Some a }) (λ i x. refl) hs 0 id id h (omega arith) l
+
+pub renewed-at : (d k : ℕ) (hs : List (Option Held)) (id : ℕ) (h : Held) → slice_get hs id ≡ Some (Some h) → nodes_from 0 (set hs id (Some (record h { deadline = d; known = k }))) ≡ map (renewed id d k) (nodes_from 0 hs)
+renewed-at d k hs id h l = one-from (λ (x : Held). record x { deadline = d; known = k }) (λ (n : RankedNode). record n { deadline = d; known = k }) (λ i x. refl) hs 0 id id h (omega arith) l
 
 -- one slot more
 

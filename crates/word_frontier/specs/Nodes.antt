@@ -12,12 +12,14 @@ pub record NodeView : Type 0 where
   pub rank : ℕ
   pub deadline : ℕ
 
--- a node: its word, rank and deadline, and the actor that took it, or none while it is open
+-- a node: its word, rank and deadline, under how many commitments the deadline was found, and the
+-- actor that took it, or none while it is open
 pub record RankedNode : Type 0 where
   pub id : ℕ
   pub word : List Mark
   pub rank : ℕ
   pub deadline : ℕ
+  pub known : ℕ
   pub taker : Option ℕ
 
 -- the nodes in order of ids, how many ids were given, below what all ranks are, and how many nodes
@@ -33,20 +35,22 @@ pub record AreApart (f : FrontierView) : Type 0 where
   pub rising : IsTrue (each_pair (λ m n. nat_lt m.id n.id) f.nodes)
   pub given : IsTrue (list_all (λ n. nat_lt n.id f.made) f.nodes)
 
--- the open node of a word and one mark more
-abbrev pub child_of : ℕ → List Mark → Child → RankedNode
-child_of id w c = record {
+-- the open node of a word and one mark more, whose deadline was found under so many commitments
+abbrev pub child_of : ℕ → ℕ → List Mark → Child → RankedNode
+child_of known id w c = record {
   id = id;
   word = w ++ c.mark ∷ [];
   rank = c.rank;
   deadline = c.deadline;
+  known = known;
   taker = None;
 }
 
 -- one open node for each child of a word, with the next ids
-abbrev pub children_from : List Mark → ℕ → List Child → List RankedNode
-children_from w made [] = []
-children_from w made (c ∷ rest) = child_of made w c ∷ children_from w (suc made) rest
+abbrev pub children_from : ℕ → List Mark → ℕ → List Child → List RankedNode
+children_from known w made [] = []
+children_from known w made (c ∷ rest) =
+    child_of known made w c ∷ children_from known w (suc made) rest
 
 -- the children that are live at a clock
 abbrev pub live_at : ℕ → List Child → List Child
@@ -67,10 +71,11 @@ pub record IsLeast (nodes : List RankedNode) (n : RankedNode) : Type 0 where
   pub there : IsIn n nodes
   pub least : IsTrue (list_all (no_later n) nodes)
 
--- what is told of a node: its id and its deadline
+-- what is told of a node: its id, its deadline, and under how many commitments that was found
 pub record Tells (found : Standing) (n : RankedNode) : Type 0 where
   pub id : found.id ≡ n.id
   pub deadline : found.deadline ≡ n.deadline
+  pub known : found.known ≡ n.known
 
 -- nothing where there is no node, else the id and the deadline of the least one
 abbrev pub GivesLeast : List RankedNode → Option Standing → Type 0
@@ -90,6 +95,11 @@ has_id id nodes = list_any (λ n. n.id == id) nodes
 
 abbrev pub taken_by : ℕ → ℕ → RankedNode → RankedNode
 taken_by actor id n = if n.id == id then record n { taker = Some actor } else n
+
+-- the node of an id with a deadline that was found under so many commitments
+abbrev pub renewed : ℕ → ℕ → ℕ → RankedNode → RankedNode
+renewed id deadline known n =
+    if n.id == id then record n { deadline = deadline; known = known } else n
 
 abbrev pub without : ℕ → List RankedNode → List RankedNode
 without id nodes = filter (λ n. not (n.id == id)) nodes

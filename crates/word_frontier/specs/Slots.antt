@@ -52,6 +52,7 @@ pub record Held : Type 0 where
   pub word : List Mark
   pub rank : ℕ
   pub deadline : ℕ
+  pub known : ℕ
   pub taker : Option ℕ
 
 abbrev pub taker_of : State → ℕ → Option ℕ
@@ -74,6 +75,7 @@ held w s = cond (counts among.All s.state) (Some (record {
   word = w;
   rank = s.rank;
   deadline = s.deadline;
+  known = s.known;
   taker = taker_of s.state s.taker;
 })) None
 
@@ -88,6 +90,7 @@ node_in id h = record {
   word = h.word;
   rank = h.rank;
   deadline = h.deadline;
+  known = h.known;
   taker = h.taker;
 }
 

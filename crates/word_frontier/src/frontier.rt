@@ -1,7 +1,7 @@
 ghost use Rattle.std.specs.Prelude.{ℕ, ◌≡◌, ◌≤◌, ◌<◌, ◌+◌, ◌^◌, ◌++◌, ◌∷◌, [], IfOk, OnOk, Some, None, map, length, IsTrue, All};
 ghost use Rattle.std.specs.List.{slice_get};
-ghost use Rattle.tp_spec.specs.Lists.{is_empty};
-ghost use Rattle.word_frontier.specs.Nodes.{RankedNode, GivesLeast, IsLeast, IsCopy, AreApart, open_nodes, has_id, taken_by, without, child_of, children_from, live_at, is_taken, word_at, StandsAt};
+ghost use Rattle.tp_spec.specs.Lists.{IsIn, is_empty};
+ghost use Rattle.word_frontier.specs.Nodes.{RankedNode, GivesLeast, Tells, renewed, IsLeast, IsCopy, AreApart, open_nodes, has_id, taken_by, without, child_of, children_from, live_at, is_taken, word_at, StandsAt};
 ghost use Rattle.std.specs.Prelude.{List as Items};
 ghost use Rattle.tp_spec.specs.declared.plan.Mark.{Mark as AMark};
 ghost use Rattle.word_frontier.specs.Slots.{word_of, words_of, step_of, GoBack, ranks_of, links_of, keys, AreChained, IsFirst, IsOfRank, HeadMoved, head_at};
@@ -14,11 +14,13 @@ use std::alloc::Global;
 use std::marker::Model;
 use tp_spec::{Item, List, Mark, NoMemory};
 
-/// A node that stands: its id, and its deadline.
+/// A node that stands: its id, its deadline, in ticks, and under how many commitments that was
+/// found.
 #[derive(Clone, Copy, Debug, PartialEq, Eq)]
 pub struct Standing {
     pub id: u32,
     pub deadline: u64,
+    pub known: u8,
 }
 
 /// The frontier of the search: its nodes, open or taken, by their ids. Nodes that left stay as the
@@ -50,8 +52,8 @@ impl Model for Frontier {
 }
 
 impl Frontier {
-    /// The root alone, which is open: the empty word, under its rank and deadline. All ranks of the
-    /// search are below `ranks`.
+    /// The root alone, which is open: the empty word, under its rank and its deadline without
+    /// commitments. All ranks of the search are below `ranks`.
     pub fn root(alloc: Global, ranks: usize, rank: u32, deadline: u64) -> Result<Frontier, NoMemory>
         requires { rank < ranks }
         ensures nodes { IfOk result (λ f. f.nodes ≡ record {
@@ -59,6 +61,7 @@ impl Frontier {
           word = [];
           rank = rank;
           deadline = deadline;
+          known = 0;
           taker = None;
         } ∷ []) }
         ensures made { IfOk result (λ f. f.made ≡ 1) }
@@ -78,6 +81,7 @@ impl Frontier {
             rank,
             link: 0,
             taker: 0,
+            known: 0,
             kind: Kind::TimedAt,
             fresh: true,
             state: State::Open,
@@ -135,8 +139,7 @@ impl Frontier {
         let Some((_, id)) = self.stands.least() else {
             return None;
         };
-        let deadline = self.slots[id as usize].deadline;
-        Some(Standing { id, deadline })
+        Some(self.standing(id))
     }
 
     /// The open node of the least rank and id, if any is open.
@@ -146,8 +149,31 @@ impl Frontier {
         let Some((_, id)) = self.opens.least() else {
             return None;
         };
-        let deadline = self.slots[id as usize].deadline;
-        Some(Standing { id, deadline })
+        Some(self.standing(id))
+    }
+
+    /// What is told of the node of an id.
+    fn standing(&self, id: u32) -> Standing
+        requires { id < self.now.made }
+        ensures { (n : RankedNode) → IsIn n self.now.nodes → n.id ≡ id → Tells result n }
+    {
+        let slot = &self.slots[id as usize];
+        Standing {
+            id,
+            deadline: slot.deadline,
+            known: slot.known,
+        }
+    }
+
+    /// The node of an id, which stands, gets a deadline that was found under so many commitments.
+    pub fn renew(&mut self, id: u32, deadline: u64, known: u8)
+        requires { IsTrue (has_id id self.old.nodes) }
+        ensures nodes { self.new.nodes ≡ map (renewed id deadline known) self.old.nodes }
+        ensures made { self.new.made ≡ self.old.made }
+        ensures ranks { self.new.ranks ≡ self.old.ranks }
+        ensures room { self.new.room ≡ self.old.room }
+    {
+        self.slots[id as usize].note_deadline(deadline, known);
     }
 
     /// A copy of the node of an id, which stands.
@@ -217,15 +243,17 @@ impl Frontier {
     }
 
     /// Puts open nodes in the place of the one of an id, which an actor took: one for each child
-    /// that is live at a clock, in order, with the next ids. Their ranks are below the number that
-    /// the root was made with, and there is room for them.
-    pub fn expand(&mut self, id: u32, actor: u32, children: &[Child], now: u64)
+    /// that is live at a clock, in order, with the next ids. Their deadlines were found under so
+    /// many commitments, their ranks are below the number that the root was made with, and there is
+    /// room for them.
+    pub fn expand(&mut self, id: u32, actor: u32, children: &[Child], now: u64, known: u8)
         requires taken { IsTrue (is_taken actor id self.old.nodes) }
         requires below { All (λ c. c.rank < self.old.ranks) children.now }
         requires room { length (live_at now children.now) ≤ self.old.room }
         requires ids { self.old.made + length (live_at now children.now) < 2 ^ 32 }
         ensures nodes { self.new.nodes ≡ without id self.old.nodes
-            ++ children_from (word_at id self.old.nodes) self.old.made (live_at now children.now) }
+            ++ children_from known (word_at id self.old.nodes) self.old.made
+            (live_at now children.now) }
         ensures made { self.new.made ≡ self.old.made + length (live_at now children.now) }
         ensures ranks { self.new.ranks ≡ self.old.ranks }
         ensures room { self.old.room ≤ self.new.room + length (live_at now children.now) }
@@ -234,20 +262,20 @@ impl Frontier {
         self.keeps_order();
         for child in children {
             if now <= child.deadline {
-                self.enter(id, *child);
+                self.enter(id, *child, known);
             }
         }
         self.leave(id);
     }
 
     /// A child of the node of an id comes in, open, with the next id.
-    fn enter(&mut self, id: u32, child: Child)
+    fn enter(&mut self, id: u32, child: Child, known: u8)
         requires there { id < self.old.made }
         requires rank { child.rank < self.old.ranks }
         requires room { 0 < self.old.room }
         requires ids { self.old.made + 1 < 2 ^ 32 }
         ensures nodes { (w : Items AMark) → StandsAt w id self.old.nodes
-            → self.new.nodes ≡ self.old.nodes ++ child_of self.old.made w child ∷ [] }
+            → self.new.nodes ≡ self.old.nodes ++ child_of known self.old.made w child ∷ [] }
         ensures made { self.new.made ≡ self.old.made + 1 }
         ensures ranks { self.new.ranks ≡ self.old.ranks }
         ensures room { self.old.room ≤ self.new.room + 1 }
@@ -258,7 +286,7 @@ impl Frontier {
             self.slots[last as usize].note_next(made);
         }
         self.lasts[rank] = Some(made);
-        self.slots.push_reserved(Slot::open(id, child));
+        self.slots.push_reserved(Slot::open(id, child, known));
         self.opens.enter(rank, made);
         self.stands.enter(rank, made);
     }

@@ -29,10 +29,10 @@ pub(crate) enum Among {
     All,
 }
 
-/// The place of an id: its parent's id, the mark behind its parent's word, its rank, its deadline,
-/// the next id of its rank, and the actor that took it. There is a slot for each id ever given, so
-/// it is kept small: the mark lies in it by its parts. `link` means nothing in the last slot of a
-/// rank, nor `taker` where the node is not taken.
+/// The place of an id: its parent's id, the mark behind its parent's word, its rank, its deadline
+/// and under how many commitments that was found, the next id of its rank, and the actor that took
+/// it. There is a slot for each id ever given, so it is kept small: the mark lies in it by its
+/// parts. `link` means nothing in the last slot of a rank, nor `taker` where the node is not taken.
 #[derive(Clone, Copy, Debug)]
 pub(crate) struct Slot {
     pub(crate) deadline: u64,
@@ -41,6 +41,7 @@ pub(crate) struct Slot {
     pub(crate) rank: u32,
     pub(crate) link: u32,
     pub(crate) taker: u32,
+    pub(crate) known: u8,
     pub(crate) kind: Kind,
     pub(crate) fresh: bool,
     pub(crate) state: State,
@@ -49,12 +50,14 @@ pub(crate) struct Slot {
 const _: () = prove!(size_of::<Slot>() == 32);
 
 impl Slot {
-    /// The slot of an open node, which nothing follows in its rank.
-    pub(crate) fn open(parent: u32, child: Child) -> Slot
+    /// The slot of an open node, which nothing follows in its rank, and whose deadline was found
+    /// under so many commitments.
+    pub(crate) fn open(parent: u32, child: Child, known: u8) -> Slot
         ensures parent { result.parent ≡ parent }
         ensures mark { mark_of result ≡ child.mark }
         ensures rank { result.rank ≡ child.rank }
         ensures deadline { result.deadline ≡ child.deadline }
+        ensures known { result.known ≡ known }
         ensures state { result.state ≡ Open }
     {
         let (kind, number) = match child.mark.item {
@@ -69,6 +72,7 @@ impl Slot {
             rank: child.rank,
             link: 0,
             taker: 0,
+            known,
             kind,
             fresh: child.mark.fresh,
             state: State::Open,
@@ -127,6 +131,14 @@ impl Slot {
     {
         self.taker = actor;
         self.state = State::Taken;
+    }
+
+    /// Its node has this deadline, which was found under so many commitments.
+    pub(crate) fn note_deadline(&mut self, deadline: u64, known: u8)
+        ensures { self.new ≡ record self.old { deadline = deadline; known = known } }
+    {
+        self.deadline = deadline;
+        self.known = known;
     }
 
     /// Its node leaves.

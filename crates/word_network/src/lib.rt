@@ -18,4 +18,4 @@ mod waiting;
 pub use deadlines::deadline;
 pub use networks::{earliest, latest};
 pub use schedule::{Latest, OpenEnd};
-pub use uncounted::earliest_plan;
+pub use uncounted::{earliest_plan, latest_schedule};

@@ -19,7 +19,7 @@ returns-then-not-is_taken-clause-merged c =
     let task = c.in_ok-begin.ensures.task in
     let none : has_outcome c.begin.new.self.history ≡ false = sym c.is_over.ensures ∙ c.if-is_over.false in
     let of = job-later c.args.run.now.limits c.args.run.now.history c.begin.new.self.history c.args.actor c.args.sprouts.now.job c.in_ok-begin.ensures.more c.requires.job in
-    let gone = left c.begin.new.self c.args.actor c.args.sprouts.now c.stands.ensures.stands none (subst (λ l. IsJobOf l c.begin.new.self.history c.args.actor c.args.sprouts.now.job) (sym task.limits) of)
+    let gone = left c.begin.new.self c.args.actor c.args.sprouts.now c.stands.ensures.stands c.states_of_runs.ensures c.commitments_of_runs.ensures.grow none (subst (λ l. IsJobOf l c.begin.new.self.history c.args.actor c.args.sprouts.now.job) (sym task.limits) of)
     (ap (λ k. is_taken c.args.actor k c.begin.new.self.frontier.nodes) (sym (c.id.ensures ∙ ap (λ j. j.id) c.job.ensures)) ∙ sym c.is_taken.ensures ∙ c.if-not-is_taken.true) in
     record {
       turn = c.in_ok-begin.ensures.begun.turn;
@@ -38,7 +38,7 @@ finish-requires-clause-ready c =
     let task = c.in_ok-begin.ensures.task in
     let none : has_outcome c.begin.new.self.history ≡ false = sym c.is_over.ensures ∙ c.if-is_over.false in
     let of = job-later c.args.run.now.limits c.args.run.now.history c.begin.new.self.history c.args.actor c.args.sprouts.now.job c.in_ok-begin.ensures.more c.requires.job in
-    ready c.begin.new.self c.args.actor c.args.sprouts.now c.stands.ensures.stands none (subst (λ l. IsJobOf l c.begin.new.self.history c.args.actor c.args.sprouts.now.job) (sym task.limits) of)
+    ready c.begin.new.self c.args.actor c.args.sprouts.now c.stands.ensures.stands c.states_of_runs.ensures c.commitments_of_runs.ensures.grow none (subst (λ l. IsJobOf l c.begin.new.self.history c.args.actor c.args.sprouts.now.job) (sym task.limits) of)
     c.requires.sprouts (c.requires.problem ∙ sym task.problem) (c.requires.limits ∙ sym task.limits)
     (ap (λ k. is_taken c.args.actor k c.begin.new.self.frontier.nodes) (sym (c.id.ensures ∙ ap (λ j. j.id) c.job.ensures)) ∙ sym c.is_taken.ensures ∙ c.if-not-is_taken.false)
 

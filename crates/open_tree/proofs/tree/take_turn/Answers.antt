@@ -23,8 +23,8 @@ returns-clause-taken c =
     let takes = subst (GivesTake c.begin.new.self c.take.new.self c.args.actor) c.in-Some.is c.in_ok-id.ensures.taken in
     gives-job c.args.run.now c.begin.new.self c.take.new.self c.args.actor c.args.reading _ _ c.in_ok-begin.ensures.begun.turn takes c.new.result
     (record { problem = c.in_ok-id.ensures.task.problem ∙ c.in_ok-begin.ensures.task.problem; limits = c.in_ok-id.ensures.task.limits ∙ c.in_ok-begin.ensures.task.limits })
-    c.stands.ensures.stands (c.new.ensures.problem ∙ c.problem.ensures) (c.new.ensures.limits ∙ c.limits.ensures) c.new.ensures.id c.new.ensures.node
-    (c.new.ensures.clock ∙ c.now.ensures takes.rested.standing) (c.new.ensures.commits ∙ c.new-commits.ensures)
+    (c.new.ensures.problem ∙ c.problem.ensures) (c.new.ensures.limits ∙ c.limits.ensures) c.new.ensures.id c.new.ensures.node
+    (c.new.ensures.clock ∙ c.now.ensures takes.rested.standing) (c.new.ensures.commits ∙ c.in_ok-commits.ensures ∙ c.commits.ensures.acts)
 
 pub returns-clause-ended : goal.returns-clause-ended
 returns-clause-ended c =

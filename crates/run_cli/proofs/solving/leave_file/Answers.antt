@@ -1,12 +1,11 @@
-use Rattle.std.proofs.Common.{inr}
-use Rattle.run_cli.specs.Stopping.{ground_file}
+use Rattle.std.proofs.Common.{inr, []}
 use Rattle.run_cli.proofs.Stopping.{says-why}
 use Rattle.run_cli.proofs.solving.leave_file.Goals as goal
 
 pub returns-in-Err-Said-clause-ends : goal.returns-in-Err-Said-clause-ends
 returns-in-Err-Said-clause-ends g c =
     let why = rw c.in-Err-Said.field-0-is at c.in-Err-Said.ensures.stop in
-    inr (says-why (ground_file c.args.name.now)
+    inr (says-why c.args.source.now []
     (record { files = g.F.Files.view c.args.files.now; sink = g.O.Sink.view c.args.out.now })
-    (record { files = g.F.Files.view c.load_ground.new.files; sink = g.O.Sink.view c.say.new.out })
+    (record { files = g.F.Files.view c.load_problem.new.files; sink = g.O.Sink.view c.say.new.out })
     c.in-Err-Said.answer.status c.in-Err-Said.answer.line.items c.say.result.status why c.say.ensures.prints)

@@ -1,8 +1,9 @@
-use Rattle.std.proofs.Common.{◌≡◌, sym, subst, arith, false, Some, None}
-use Rattle.machine_run.specs.Settling.{FindsOpen}
+use Rattle.std.proofs.Common.{◌≡◌, sym, subst, false, None}
+use Rattle.tp_laws.proofs.Members.{in-filter}
+use Rattle.word_frontier.specs.Nodes.{is_open}
+use Rattle.machine_run.specs.Settling.{FindsOpen, IsToldOf}
 use Rattle.machine_run.specs.Turns.{has_outcome}
 use Rattle.machine_run.specs.Views.{RunView}
-use Rattle.machine_run.proofs.Standing.{over-none}
 use Rattle.machine_run.proofs.Taking.{none-open}
 use Rattle.machine_run.proofs.run.MachineRun.drop_dead.Goals as goal
 
@@ -11,8 +12,8 @@ returns-in_default-clause-ok c =
     let none = subst (λ (r : RunView). has_outcome r.history ≡ false) (sym c.self.view_is) c.loop-least.invariant.standing in
     subst (λ (r : RunView). FindsOpen r None) c.self.view_is (none-open _ c.self.invariant.stands none c.in_default.ensures)
 
-pub returns-then-least-self-clause-ok : goal.returns-then-least-self-clause-ok
-returns-then-least-self-clause-ok c =
-    let none = subst (λ (r : RunView). has_outcome r.history ≡ false) (sym c.self.view_is) c.loop-least.invariant.standing in
-    let told = c.self.invariant.clocked (over-none c.self.invariant none) in
-    subst (λ (r : RunView). FindsOpen r (Some c.in-Some.least)) c.self.view_is (c.in-Some.ensures, omega (arith, told, c.if-least-self.true))
+pub live_deadline-requires-clause-told : goal.live_deadline-requires-clause-told
+live_deadline-requires-clause-told c =
+    let found = c.in-Some.ensures in
+    subst (λ (r : RunView). IsToldOf r c.in-Some.least) c.self.view_is
+    (record { node = found.0; there = in-filter is_open found.0 _ found.1.there; tells = found.2 })

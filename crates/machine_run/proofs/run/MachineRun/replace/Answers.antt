@@ -37,8 +37,9 @@ invariant_of-self-2 c =
     let nodes = c.reserve.ensures.nodes in
     let made = c.reserve.ensures.made in
     let marks = c.in_ok-marks.ensures ∙ ap marks_of same in
-    kept-expand c.self.invariant c.args.actor c.args.id held c.args.children.now offspring room _ c.expand.new.self
-    (c.expand.ensures.nodes ∙ (λ i. without c.args.id (nodes i) ++ children_from (word_at c.args.id (nodes i)) (made i) (same i)))
+    let all = c.known-known.ensures ∙ ap (λ (r : RunView). length (state r).commits) (sym c.self.view_is) in
+    kept-expand c.self.invariant c.args.actor c.args.id held c.args.children.now offspring room c.known-known.result _ c.expand.new.self all
+    (c.expand.ensures.nodes ∙ (λ i. without c.args.id (nodes i) ++ children_from c.known-known.result (word_at c.args.id (nodes i)) (made i) (same i)))
     (c.expand.ensures.made ∙ (λ i. made i + length (same i)))
     (c.expand.ensures.ranks ∙ c.reserve.ensures.ranks)
     (c.push_reserved.ensures.items ∙ (λ i. c.reserve_event.ensures.items i ++ Expand c.args.actor c.args.id (marks i) ∷ []))

@@ -1,21 +1,19 @@
 use Rattle.std.proofs.Common.{◌∙◌, sym, ap, subst, arith}
-use Rattle.word_frontier.specs.declared.frontier.Standing.{Standing}
-use Rattle.word_frontier.specs.Nodes.{FrontierView, GivesLeast}
-use Rattle.std.specs.Prelude.{Some}
-use Rattle.word_frontier.proofs.Keeping.{none-stand, best-node, told, node-within}
+use Rattle.tp_spec.specs.Lists.{IsIn}
+use Rattle.word_frontier.specs.Nodes.{FrontierView, IsLeast}
+use Rattle.word_frontier.proofs.Keeping.{none-stand, best-node, node-within}
 use Rattle.word_frontier.proofs.frontier.Frontier.best.Goals as goal
 
 pub returns-in_default : goal.returns-in_default
 returns-in_default c =
     sym (ap (λ (f : FrontierView). f.nodes) c.self.view_is) ∙ none-stand c.self.inside.slots.items c.self.inside.lasts.items c.self.inside.opens c.self.inside.stands c.self.invariant c.in_default.ensures
 
-pub index-requires : goal.index-requires
-index-requires c =
+pub standing-requires : goal.standing-requires
+standing-requires c =
     let l = best-node c.self.inside.slots.items c.self.inside.lasts.items c.self.inside.opens c.self.inside.stands c.in-Some.field-0-0 c.in-Some.id c.self.invariant c.in-Some.ensures in
-    let h = node-within c.self.inside.slots.items l.0 c.in-Some.id l.1.0.there l.1.1.0 in omega (arith, h)
+    let h = node-within c.self.inside.slots.items l.0 c.in-Some.id l.1.0.there l.1.1.0 in let made = ap (λ (f : FrontierView). f.made) c.self.view_is in omega (arith, h, made)
 
 pub returns : goal.returns
 returns c =
     let l = best-node c.self.inside.slots.items c.self.inside.lasts.items c.self.inside.opens c.self.inside.stands c.in-Some.field-0-0 c.in-Some.id c.self.invariant c.in-Some.ensures in
-    let t = told c.self.inside.slots.items _ c.in-Some.field-0-0 c.in-Some.id c.index.result.now l l.1.0.there c.index.ensures in
-    subst (λ (f : FrontierView). GivesLeast (f.nodes) (Some (let s : Standing = record { id = c.in-Some.id; deadline = c.index.result.now.deadline } in s))) c.self.view_is t
+    (l.0, subst (λ (f : FrontierView). IsLeast f.nodes l.0) c.self.view_is l.1.0, c.standing.ensures l.0 (subst (λ (f : FrontierView). IsIn l.0 f.nodes) c.self.view_is l.1.0.there) l.1.1.0)

@@ -33,12 +33,12 @@ returns-clause-nodes c = λ w h.
       | in_default w ↦ between-none _ _ _ _ (head ∙ w.in_default.is) w.self-inside-is
     ]) in
     let made-is : c.len-made.result ≡ c.args.self.now.made = c.len-made.ensures ∙ made in
-    enters-nodes _ _ _ _ _ c.args.id c.args.child.rank _ w c.args.child between.linked c.self.invariant.some (record {
+    enters-nodes _ _ _ _ _ c.args.id c.args.child.rank _ w c.args.child c.args.known between.linked c.self.invariant.some (record {
       next = omega arith;
       few = omega (arith, made);
       parent_is = c.open.ensures.parent;
       earlier = omega (arith, made);
       rank_is = c.open.ensures.rank;
       state = c.open.ensures.state;
-    }) c.push_reserved.ensures.items c.open.ensures.mark refl c.open.ensures.deadline (subst (λ (f : FrontierView). StandsAt w c.args.id f.nodes) (sym c.self.view_is) h)
-    ∙ (λ i. (c.self.view_is i).nodes ++ child_of (made-is i) w c.args.child ∷ [])
+    }) c.push_reserved.ensures.items c.open.ensures.mark refl c.open.ensures.deadline c.open.ensures.known (subst (λ (f : FrontierView). StandsAt w c.args.id f.nodes) (sym c.self.view_is) h)
+    ∙ (λ i. (c.self.view_is i).nodes ++ child_of c.args.known (made-is i) w c.args.child ∷ [])

@@ -21,22 +21,22 @@ enter-requires-clause-ids c =
 
 pub loop-child-preserved : goal.loop-child-preserved
 loop-child-preserved c =
-    let before : Grown c.args.self.now c.loop-child.self c.args.id c.args.now c.loop-child.child-index c.args.children.now = record {
+    let before : Grown c.args.known c.args.self.now c.loop-child.self c.args.id c.args.now c.loop-child.child-index c.args.children.now = record {
       nodes = c.loop-child.invariant.nodes;
       made = c.loop-child.invariant.made;
       ranks = c.loop-child.invariant.ranks;
       room = c.loop-child.invariant.room;
     } in
-    let g = (elim c.if-now-child.branch as (λ x. Grown c.args.self.now c.if-now-child.self c.args.id c.args.now (c.loop-child.child-index + 1) c.args.children.now) [
-      | then-now-child w ↦ subst (λ (f : FrontierView). Grown c.args.self.now f c.args.id c.args.now (c.loop-child.child-index + 1) c.args.children.now) (sym w.self-is)
-          (grown-yes _ _ _ c.args.actor _ _ _ _ _ c.requires.taken before c.loop-child-test.true w.if-now-child.true (record {
+    let g = (elim c.if-now-child.branch as (λ x. Grown c.args.known c.args.self.now c.if-now-child.self c.args.id c.args.now (c.loop-child.child-index + 1) c.args.children.now) [
+      | then-now-child w ↦ subst (λ (f : FrontierView). Grown c.args.known c.args.self.now f c.args.id c.args.now (c.loop-child.child-index + 1) c.args.children.now) (sym w.self-is)
+          (grown-yes _ _ _ _ c.args.actor _ _ _ _ _ c.requires.taken before c.loop-child-test.true w.if-now-child.true (record {
             nodes = w.enter.ensures.nodes;
             made = w.enter.ensures.made;
             ranks = w.enter.ensures.ranks;
             room = w.enter.ensures.room;
           }))
-      | else-now-child w ↦ subst (λ (f : FrontierView). Grown c.args.self.now f c.args.id c.args.now (c.loop-child.child-index + 1) c.args.children.now) (sym w.self-is)
-          (grown-no _ _ _ _ _ _ _ before c.loop-child-test.true w.if-now-child.false)
+      | else-now-child w ↦ subst (λ (f : FrontierView). Grown c.args.known c.args.self.now f c.args.id c.args.now (c.loop-child.child-index + 1) c.args.children.now) (sym w.self-is)
+          (grown-no _ _ _ _ _ _ _ _ before c.loop-child-test.true w.if-now-child.false)
     ]) in record {
       nodes = g.nodes;
       made = g.made;
@@ -49,4 +49,4 @@ leave-requires c = subst (λ (ns : List RankedNode). has_id c.args.id ns ≡ tru
 
 pub returns-clause-nodes : goal.returns-clause-nodes
 returns-clause-nodes c =
-    expanded _ _ _ c.args.actor c.args.id _ c.args.now c.loop-child.child-index c.args.children.now c.requires.taken c.keeps_order.ensures.given c.loop-child-test.false c.loop-child.invariant.nodes c.leave.ensures.nodes
+    expanded _ _ _ _ c.args.actor c.args.id _ c.args.now c.loop-child.child-index c.args.children.now c.requires.taken c.keeps_order.ensures.given c.loop-child-test.false c.loop-child.invariant.nodes c.leave.ensures.nodes

@@ -1,0 +1,5 @@
+mod Once
+mod Tests
+mod Ranges
+mod Worths
+mod Keeps

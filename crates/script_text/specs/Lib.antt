@@ -1,0 +1,5 @@
+pub mod Scripts
+pub mod Playable
+pub mod Reading
+pub mod Follows
+pub mod Examples

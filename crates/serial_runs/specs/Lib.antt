@@ -1,0 +1,5 @@
+pub mod Endings
+pub mod OneWorker
+pub mod Commands
+pub mod Stopping
+pub mod Playing

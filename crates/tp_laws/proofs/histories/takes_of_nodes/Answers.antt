@@ -1,9 +1,0 @@
-use Rattle.tp_spec.specs.Machine.{is_open}
-use Rattle.tp_laws.proofs.Runs.{in-filter, taken-id}
-use Rattle.tp_laws.proofs.histories.takes_of_nodes.Goals as goal
-
-pub returns-clause-open_stand : goal.returns-clause-open_stand
-returns-clause-open_stand c n nodes h = in-filter is_open n nodes h
-
-pub returns-clause-ids : goal.returns-clause-ids
-returns-clause-ids c = taken-id

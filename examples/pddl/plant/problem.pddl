@@ -1,0 +1,16 @@
+; Six batches, three reactors; the tariff is low from 4 to 40 and again from 60 to 90.
+(define (problem six-batches)
+ (:domain plant)
+ (:objects r1 r2 r3 - reactor b1 b2 b3 b4 b5 b6 - batch acid base - kind)
+ (:init
+  (idle r1) (idle r2) (idle r3)
+  (set r1 acid) (set r2 base) (set r3 acid)
+  (is b1 acid) (is b2 base) (is b3 acid) (is b4 acid) (is b5 base) (is b6 base)
+  (fits b1 r1) (fits b1 r3) (fits b2 r2) (fits b2 r3) (fits b3 r1) (fits b3 r2)
+  (fits b4 r1) (fits b4 r3) (fits b5 r2) (fits b6 r1) (fits b6 r2)
+  (= (flow) 10)
+  (= (need b1) 4) (= (need b2) 6) (= (need b3) 5) (= (need b4) 7) (= (need b5) 3) (= (need b6) 6)
+  (= (time b1) 8) (= (time b2) 12) (= (time b3) 6) (= (time b4) 9) (= (time b5) 5) (= (time b6) 10)
+  (= (rinse-time r1) 3) (= (rinse-time r2) 3) (= (rinse-time r3) 4)
+  (at 4 (low-tariff)) (at 40 (not (low-tariff))) (at 60 (low-tariff)) (at 90 (not (low-tariff))))
+ (:goal (and (made b1) (made b2) (made b3) (made b4) (made b5) (made b6))))
