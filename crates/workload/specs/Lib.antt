@@ -1,0 +1,5 @@
+pub mod Draws
+pub mod Places
+pub mod Domain
+pub mod Texts
+pub mod Examples
