@@ -57,15 +57,15 @@ name_len place near = by_depot (place == 0) where
   by_depot true = omega arith
   by_depot false = let e = length-append (codes "c") (decimal place) in omega (arith, e, digit)
 
-below_7 : (x : ℕ) → draw 7 x < 7
+pub below_7 : (x : ℕ) → draw 7 x < 7
 unfolding number_of
 below_7 x = omega arith
 
-below_20 : (x : ℕ) → draw 20 x < 20
+pub below_20 : (x : ℕ) → draw 20 x < 20
 unfolding number_of
 below_20 x = omega arith
 
-below_3 : (x : ℕ) → draw 3 x < 3
+pub below_3 : (x : ℕ) → draw 3 x < 3
 unfolding number_of
 below_3 x = omega arith
 

@@ -8,5 +8,5 @@ mod pinned;
 mod places;
 mod texts;
 
-pub use pinned::{example_texts, examples};
+pub use pinned::{example_texts, examples, ranges};
 pub use texts::make;
