@@ -1,15 +1,14 @@
 -- How long the texts are at most.
-use Rattle.std.proofs.Common.{◌≡◌, ℕ, zero, suc, ◌+◌, ◌*◌, ◌/◌, ◌%◌, ◌^◌, ◌≤◌, ◌<◌, Bool, true, false, List, [], ◌∷◌, ◌++◌, length, refl, ap, sym, ◌∙◌, length-append, arith}
-use Rattle.std.specs.Prelude.{codes, decimal, ◌==◌, ◌&&◌, nat_lt, nat_le, if◌then◌else◌}
+use Rattle.std.proofs.Common.{◌≡◌, ℕ, zero, suc, ◌+◌, ◌*◌, ◌≤◌, ◌<◌, Bool, true, false, List, [], ◌∷◌, ◌++◌, length, refl, length-append, arith}
+use Rattle.std.specs.Prelude.{codes, decimal, ◌==◌, ◌&&◌, nat_lt, if◌then◌else◌}
 use Rattle.std.specs.List.{list_all}
 use Rattle.std.proofs.lemmas.Bool.{and_parts}
 use Rattle.std.proofs.lemmas.Bool.Decides.{nat_tests}
 use Rattle.std.proofs.lemmas.Fmt.{length-decimal-le}
-use Rattle.tp_spec.specs.Lists.{is_empty}
 use Rattle.workload.specs.Domain.{domain_text}
 use Rattle.workload.specs.Draws.{next_state, number_of, draw, state_after}
 use Rattle.workload.specs.Places.{customers, places, place_name, legs}
-use Rattle.workload.specs.Texts.{customers_drawn, distance_drawn, deadline_drawn, names_text, objects_text, distance_text, distances_text, open_text, opens_text, line_end, deadline_text, deadlines_text, goal_text, goals_text, lines_text, problem_text}
+use Rattle.workload.specs.Texts.{distance_drawn, deadline_drawn, names_text, objects_text, distance_text, distances_text, open_text, opens_text, line_end, deadline_text, deadlines_text, goal_text, goals_text, lines_text, problem_text}
 use Rattle.workload.specs.declared.places.Leg.{Leg}
 
 -- a place whose name has one digit at most

@@ -1,9 +1,9 @@
 -- What the definitions say, worked out by another program: the first states and draws, and the
 -- whole texts of three seeds, one with each number of customers.
 use Rattle.std.specs.Prelude.{◌≡◌, ℕ, ◌^◌, ◌-◌, List, [], ◌∷◌, ◌++◌, codes}
-use Rattle.workload.specs.Draws.{next_state, number_of, draw}
+use Rattle.workload.specs.Draws.{next_state, number_of}
 use Rattle.workload.specs.Places.{legs, leg, places, place_name}
-use Rattle.workload.specs.Texts.{customers_drawn, deadline_drawn, problem_text}
+use Rattle.workload.specs.Texts.{customers_drawn, problem_text}
 
 -- The states behind 0, of which the upper 31 bits give the numbers.
 abbrev pub States : Type 0

@@ -96,11 +96,7 @@ fn push_deadline(text: &mut Vec<u8>, customer: u32, deadline: u64) -> Result<(),
 }
 
 /// Puts a line for each customer, and draws its deadline.
-fn push_deadlines(
-    text: &mut Vec<u8>,
-    customers: &[u32],
-    draws: &mut Draws,
-) -> Result<(), NoMemory>
+fn push_deadlines(text: &mut Vec<u8>, customers: &[u32], draws: &mut Draws) -> Result<(), NoMemory>
     ensures { OnOk result (text.new.items
         ≡ text.old.items ++ deadlines_text customers.now draws.old.state) }
 {
@@ -155,7 +151,10 @@ fn lines_text(
     ensures { IfOk result (λ t. t.items ≡ lines_text customers.now legs.now draws.old.state) }
 {
     let mut text = Vec::new(alloc);
-    push_bytes(&mut text, b"(define (problem Courier-1)\n (:domain COURIER)\n")?;
+    push_bytes(
+        &mut text,
+        b"(define (problem Courier-1)\n (:domain COURIER)\n",
+    )?;
     push_objects(&mut text, customers)?;
     push_bytes(&mut text, b" (:init\n  (at v1 depot) (at v2 depot)\n")?;
     push_distances(&mut text, legs, draws)?;

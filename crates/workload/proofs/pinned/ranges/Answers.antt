@@ -1,6 +1,4 @@
-use Rattle.std.proofs.Common.{◌+◌, ◌*◌, ◌≤◌, ◌<◌, arith}
-use Rattle.workload.specs.Draws.{draw}
-use Rattle.workload.specs.Texts.{customers_drawn, distance_drawn, deadline_drawn}
+use Rattle.std.proofs.Common.{arith}
 use Rattle.workload.proofs.Lengths.{below_3, below_7, below_20}
 use Rattle.workload.proofs.pinned.ranges.Goals as goal
 
