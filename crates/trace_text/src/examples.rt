@@ -1,0 +1,9 @@
+ghost use Rattle.trace_text.specs.Examples.{TracesNothing, TracesDrive, TracesTurns, TracesOutcomes};
+
+/// Histories and their texts, computed from the definition.
+pub fn examples()
+    ensures nothing { TracesNothing }
+    ensures drive { TracesDrive }
+    ensures turns { TracesTurns }
+    ensures outcomes { TracesOutcomes }
+{}

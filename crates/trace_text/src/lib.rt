@@ -1,0 +1,8 @@
+//! The text of a history, event by event, written and read.
+#![tactic(auto)]
+
+mod examples;
+mod write;
+
+pub use examples::examples;
+pub use write::write_trace;
