@@ -1,7 +1,7 @@
 ghost use Rattle.trace_text.specs.Examples.{TracesNothing, TracesDrive, TracesTurns, TracesOutcomes};
 
 /// Histories and their texts, computed from the definition.
-pub fn examples()
+pub fn traces()
     ensures nothing { TracesNothing }
     ensures drive { TracesDrive }
     ensures turns { TracesTurns }

@@ -4,5 +4,5 @@
 mod examples;
 mod write;
 
-pub use examples::examples;
+pub use examples::traces;
 pub use write::write_trace;

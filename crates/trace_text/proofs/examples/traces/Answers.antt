@@ -1,7 +1,7 @@
 use Rattle.std.proofs.Common.{◌≡◌, refl}
 use Rattle.std.specs.Fmt.{digits}
 use Rattle.trace_text.specs.Traces.{field, listed, mark_text, act_text, event_line, header_line, event_lines, trace_text}
-use Rattle.trace_text.proofs.examples.examples.Goals as goal
+use Rattle.trace_text.proofs.examples.traces.Goals as goal
 
 pub returns-clause-nothing : goal.returns-clause-nothing
 unfolding field listed mark_text act_text event_line header_line event_lines trace_text digits
