@@ -1,11 +1,10 @@
 -- What stands behind a keyword.
-use Rattle.std.proofs.Common.{◌≡◌, ℕ, Bool, true, false, List, [], ◌∷◌, ◌++◌, Option, Some, None, refl, sym, ap, ◌∙◌}
+use Rattle.std.proofs.Common.{◌≡◌, ℕ, Bool, true, false, List, [], ◌∷◌, ◌++◌, Some, None, refl, sym, ap, ◌∙◌}
 use Rattle.std.specs.Prelude.{bytes_eq, codes, if◌then◌else◌}
 use Rattle.std.specs.List.{list_all}
 use Rattle.std.proofs.lemmas.Slice.Eq.{bytes_eq-Decides}
 use Rattle.tp_spec.specs.declared.event.Cause.{Cause}
 use Rattle.tp_spec.specs.declared.event.Cause.TheVariants.{Out, Script, Memory}
-use Rattle.tp_spec.specs.declared.event.Event.{Event}
 use Rattle.tp_spec.specs.declared.event.Event.TheVariants.{Exhaust, Halt}
 use Rattle.tp_spec.specs.declared.plan.Mark.{Mark}
 use Rattle.tp_spec.specs.declared.plan.Timed.{Timed}
@@ -15,7 +14,7 @@ use Rattle.trace_text.specs.Traces.{field, listed, mark_text, act_text, cause_te
 use Rattle.trace_text.specs.Grammar.{is_narrow, is_wide, fits_mark, fits_act}
 use Rattle.trace_text.specs.Cuts.{IsCut, NoneCut, IsRead, NoneRead}
 use Rattle.trace_text.specs.Reading.{pair_text, are_narrow, Args, args_text, fits_args, event_of, IsOf, GivesEvent, cause_among, cause_of, all_causes}
-use Rattle.trace_text.proofs.Seams.{both, may_both, Opens, whole_read, none_read, more_read, both_read, none_read_first, none_read_second, as_read, as_none_read, both_cut}
+use Rattle.trace_text.proofs.Seams.{both, may_both, Opens, whole_read, none_read, more_read, both_read, none_read_first, none_read_second, as_read, as_none_read}
 use Rattle.trace_text.proofs.Fronts.{field_opens, pair_opens, act_made, act_parts}
 use Rattle.trace_text.proofs.Listing.{listed_opens}
 

@@ -1,6 +1,6 @@
 -- Lines that a trace begins with: some trace goes on behind them, and where the next line fits none does.
-use Rattle.std.proofs.Common.{◌≡◌, ◌⊎◌, ℕ, suc, ◌+◌, ◌-◌, ◌^◌, ◌<◌, ◌≤◌, Bool, true, false, List, [], ◌∷◌, ◌++◌, length, map, inl, inr, zero, refl, sym, ap, subst, ◌∙◌, append_assoc, append-nil, length-append, arith}
-use Rattle.std.specs.Prelude.{◌&&◌, ◌==◌, IsTrue}
+use Rattle.std.proofs.Common.{◌≡◌, ◌⊎◌, ℕ, suc, ◌+◌, ◌-◌, ◌^◌, ◌<◌, ◌≤◌, Bool, true, List, [], ◌∷◌, ◌++◌, length, map, inl, inr, zero, refl, sym, ap, subst, ◌∙◌, append_assoc, append-nil, length-append, arith}
+use Rattle.std.specs.Prelude.{◌&&◌}
 use Rattle.std.specs.List.{list_all}
 use Rattle.std.proofs.lemmas.Bool.{and_parts}
 use Rattle.std.proofs.lemmas.List.{length-map, map-append}
@@ -9,7 +9,7 @@ use Rattle.tp_spec.specs.declared.event.Event.{Event}
 use Rattle.tp_spec.specs.declared.event.Event.TheVariants.{Exhaust}
 use Rattle.tp_spec.specs.Lists.{BeginsWith}
 use Rattle.line_text.specs.Lines.{is_line, joined, are_lines}
-use Rattle.line_text.specs.FirstFault.{IsFaultBehind, Tells, SomeBegins, NoneBegins}
+use Rattle.line_text.specs.FirstFault.{Tells, SomeBegins, NoneBegins}
 use Rattle.line_text.proofs.Joined.{joined_more, lines_more}
 use Rattle.line_text.proofs.Told.{ended, refused, at_number}
 use Rattle.trace_text.specs.Traces.{event_line, header_line, trace_text}
@@ -17,7 +17,7 @@ use Rattle.trace_text.specs.Grammar.{is_wide, fits_event, IsTraceable, IsTrace}
 use Rattle.trace_text.specs.Cuts.{IsRead, NoneRead}
 use Rattle.trace_text.specs.Begun.{BeginsTrace}
 use Rattle.trace_text.proofs.Listing.{all_more}
-use Rattle.trace_text.proofs.TraceLines.{rows, trace_joined, rows_are_lines, joined_append, Longer, longer, no_more, event_is_line}
+use Rattle.trace_text.proofs.TraceLines.{rows, trace_joined, rows_are_lines, joined_append, longer, no_more}
 
 wide_of : (n : ℕ) → n < 2 ^ 64 → is_wide n ≡ true
 wide_of n h = grind (arith, nat_tests)
@@ -168,8 +168,7 @@ module _ (text : List ℕ) (count : ℕ) (behind : List ℕ) (begun : BeginsTrac
   some : SomeBegins IsTrace (rows count events)
   some =
       let full : List Event = events ++ pad left in
-      let long : length full ≡ count = length-append events (pad left) ∙ ap (λ (n : ℕ). length events + n) (pad_length left) ∙ goes.total in
-      (
+      let long : length full ≡ count = length-append events (pad left) ∙ ap (λ (n : ℕ). length events + n) (pad_length left) ∙ goes.total in (
         trace_text full,
         (
           full,
@@ -187,7 +186,7 @@ module _ (text : List ℕ) (count : ℕ) (behind : List ℕ) (begun : BeginsTrac
   next_of : (line whole : List ℕ) → is_line line ≡ true → IsTrace whole → BeginsWith whole (joined (rows count events ++ line ∷ [])) → Next count events line
   next_of line whole is w b =
       let m = longer (rows (length w.0) w.0) (rows count events ++ line ∷ []) b.rest
-          (rows_are_lines (length w.0) w.0 w.1.few w.1.fits) (lines_more (rows count events) line are is) (sym (trace_joined w.0) ∙ sym w.2 ∙ b.is) in
+      (rows_are_lines (length w.0) w.0 w.1.few w.1.fits) (lines_more (rows count events) line are is) (sym (trace_joined w.0) ∙ sym w.2 ∙ b.is) in
       record { history = w.0; traceable = w.1; more = m.more; lines = m.parts }
 
   same_count : (line : List ℕ) (n : Next count events line) → length n.history ≡ count
@@ -244,7 +243,7 @@ module _ (text : List ℕ) (count : ℕ) (behind : List ℕ) (begun : BeginsTrac
     same_of : (history : List Event) → IsTraceable history → text ≡ trace_text history → Same count events history rest
     same_of history t e =
         let m = longer (rows (length history) history) (rows count events) rest
-            (rows_are_lines (length history) history t.few t.fits) are (sym (trace_joined history) ∙ sym e ∙ goes.parts) in
+        (rows_are_lines (length history) history t.few t.fits) are (sym (trace_joined history) ∙ sym e ∙ goes.parts) in
         let none = no_more m.more rest last m.is in
         record { empty = m.is ∙ ap joined none; lines = m.parts ∙ ap (λ (l : List (List ℕ)). rows count events ++ l) none ∙ append-nil (rows count events) }
 
@@ -294,7 +293,7 @@ module _ (text line back : List ℕ) (cut : text ≡ line ++ 10 ∷ back) (is : 
   none_first : NoneBegins IsTrace (line ∷ [])
   none_first = λ whole w b.
       let m = longer (rows (length w.0) w.0) (line ∷ []) b.rest (rows_are_lines (length w.0) w.0 w.1.few w.1.fits) (ap (λ (b : Bool). b && true) is)
-          (sym (trace_joined w.0) ∙ sym w.2 ∙ b.is) in
+      (sym (trace_joined w.0) ∙ sym w.2 ∙ b.is) in
       none (length w.0) (wide_length w.0 w.1) (sym (ap head_row m.parts))
 
   pub bad_first : Tells IsTrace 1 text

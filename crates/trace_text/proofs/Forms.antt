@@ -1,17 +1,16 @@
 -- Each event's line is its keyword and what stands behind that, and is read in one way.
-use Rattle.std.proofs.Common.{◌≡◌, ℕ, Bool, true, false, List, [], ◌∷◌, ◌++◌, length, take, drop, refl, sym, ap, subst, ◌∙◌, append_assoc, Option, Some, None}
-use Rattle.std.specs.Prelude.{IsTrue, bytes_eq, codes, if◌then◌else◌}
+use Rattle.std.proofs.Common.{◌≡◌, ℕ, Bool, true, false, List, [], ◌∷◌, ◌++◌, refl, sym, ap, subst, ◌∙◌, append_assoc, Some, None}
+use Rattle.std.specs.Prelude.{bytes_eq, codes, if◌then◌else◌}
 use Rattle.std.proofs.lemmas.List.{take-append-drop}
 use Rattle.std.proofs.lemmas.Slice.Eq.{bytes_eq-Decides}
-use Rattle.tp_spec.specs.declared.event.Cause.{Cause}
 use Rattle.tp_spec.specs.declared.event.Event.{Event}
 use Rattle.tp_spec.specs.declared.event.Event.TheVariants.{Tick, Drop, Dispatch, Take, Expand, Publish, Limit, Exhaust, Halt}
 use Rattle.trace_text.specs.declared.keyword.Keyword.{Keyword}
 use Rattle.trace_text.specs.declared.keyword.Keyword.TheVariants.{OfTick, OfTake, OfExpand, OfDrop, OfDispatch, OfPublish, OfExhaust, OfLimit, OfHalt}
-use Rattle.trace_text.specs.Traces.{field, listed, mark_text, act_text, cause_text, event_line}
+use Rattle.trace_text.specs.Traces.{field, listed, act_text, event_line}
 use Rattle.trace_text.specs.Grammar.{fits_event}
 use Rattle.trace_text.specs.Cuts.{IsRead, NoneRead}
-use Rattle.trace_text.specs.Reading.{word_len, first_word, behind_word, word_text, keyword_among, all_keywords, keyword_of, pair_text, Args, args_text, fits_args, event_of, IsOf, GivesEvent}
+use Rattle.trace_text.specs.Reading.{word_len, first_word, behind_word, word_text, keyword_among, all_keywords, keyword_of, pair_text, Args, args_text, fits_args, event_of, IsOf}
 
 abbrev keyword_in : Event → Keyword
 keyword_in (Tick actor reading) = OfTick

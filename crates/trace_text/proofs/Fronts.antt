@@ -1,17 +1,17 @@
 -- Numbers, acts, items and marks at the front of a text.
-use Rattle.std.proofs.Common.{◌≡◌, ℕ, ◌+◌, ◌-◌, ◌^◌, ◌≤◌, ◌<◌, Bool, true, false, List, [], ◌∷◌, ◌++◌, length, refl, sym, ap, ◌∙◌, append_assoc, arith}
+use Rattle.std.proofs.Common.{◌≡◌, ℕ, ◌^◌, ◌≤◌, ◌<◌, Bool, true, false, List, [], ◌∷◌, ◌++◌, length, refl, sym, ap, ◌∙◌, append_assoc, arith}
 use Rattle.std.specs.Prelude.{decimal, nat_le}
 use Rattle.std.proofs.lemmas.Bool.Decides.{nat_tests}
 use Rattle.tp_spec.specs.declared.plan.Item.{Item}
 use Rattle.tp_spec.specs.declared.plan.Item.TheVariants.{TimedAt, End, Start}
 use Rattle.tp_spec.specs.declared.plan.Mark.{Mark}
 use Rattle.tp_spec.specs.declared.plan.Timed.{Timed}
-use Rattle.line_text.specs.Numbers.{begins_with_digit, BeginsWithNumber}
+use Rattle.line_text.specs.Numbers.{BeginsWithNumber}
 use Rattle.line_text.specs.Written.{item_text}
 use Rattle.trace_text.specs.Traces.{field, act_text, mark_text}
 use Rattle.trace_text.specs.Grammar.{is_narrow, is_wide, index_of, fits_item, fits_mark, fits_act}
 use Rattle.trace_text.specs.Cuts.{IsCut, NoneCut, signed, at_most, spaced}
-use Rattle.trace_text.specs.Reading.{letter_of, sign_of, pair_text, are_narrow}
+use Rattle.trace_text.specs.Reading.{letter_of, sign_of, pair_text}
 use Rattle.trace_text.proofs.Numerals.{same_number}
 use Rattle.trace_text.proofs.Seams.{both, may_both, Opens, both_cut, none_first, none_second, as_cut, as_none}
 

@@ -1,7 +1,7 @@
 -- A trace as lines: none of them has a line feed inside, and each text has one row of lines.
-use Rattle.std.proofs.Common.{◌≡◌, ℕ, suc, ◌+◌, ◌^◌, ◌<◌, ◌≤◌, Bool, true, false, not, List, [], ◌∷◌, ◌++◌, length, map, refl, sym, ap, ◌∙◌, append_assoc, append-nil, length-append, arith}
+use Rattle.std.proofs.Common.{◌≡◌, ℕ, ◌^◌, ◌<◌, Bool, true, false, not, List, [], ◌∷◌, ◌++◌, length, map, refl, sym, ap, ◌∙◌, append_assoc, length-append, arith}
 use Rattle.std.specs.Prelude.{◌&&◌, ◌==◌, codes, decimal}
-use Rattle.std.specs.List.{list_all, flat_map}
+use Rattle.std.specs.List.{list_all}
 use Rattle.std.proofs.lemmas.Bool.{and_parts, false≢true}
 use Rattle.std.proofs.lemmas.Bool.Decides.{nat_tests}
 use Rattle.tp_spec.specs.declared.event.Cause.TheVariants.{Out, Script, Memory}
@@ -13,13 +13,12 @@ use Rattle.tp_spec.specs.declared.plan.Mark.{Mark}
 use Rattle.tp_spec.specs.declared.plan.Timed.{Timed}
 use Rattle.line_text.specs.Lines.{is_line, joined, are_lines}
 use Rattle.line_text.specs.Numbers.{is_digit}
-use Rattle.trace_text.specs.Traces.{field, listed, mark_text, act_text, cause_text, event_line, event_lines, header_line, trace_text}
+use Rattle.trace_text.specs.Traces.{field, listed, mark_text, act_text, event_line, event_lines, header_line, trace_text}
 use Rattle.trace_text.specs.Grammar.{is_narrow, is_wide, index_of, fits_mark, fits_act, fits_event}
 use Rattle.trace_text.specs.Cuts.{spaced}
 use Rattle.trace_text.proofs.Numerals.{digits_alone}
 
 -- ---- no line feed
-
 
 line_more : (xs ys : List ℕ) → is_line xs ≡ true → is_line ys ≡ true → is_line (xs ++ ys) ≡ true
 line_more [] ys hx hy = hy

@@ -1,5 +1,5 @@
 -- Small histories, and their texts by the rules of the format.
-use Rattle.std.specs.Prelude.{◌≡◌, ℕ, ◌^◌, ◌-◌, true, false, List, [], ◌∷◌, ◌++◌, codes}
+use Rattle.std.specs.Prelude.{◌≡◌, ℕ, true, false, List, [], ◌∷◌, ◌++◌, codes, ◌^◌, ◌-◌}
 use Rattle.tp_spec.specs.declared.event.Cause.TheVariants.{Out, Script, Memory}
 use Rattle.tp_spec.specs.declared.event.Event.{Event}
 use Rattle.tp_spec.specs.declared.event.Event.TheVariants.{Tick, Drop, Dispatch, Take, Expand, Publish, Limit, Exhaust, Halt}
@@ -8,6 +8,7 @@ use Rattle.tp_spec.specs.declared.plan.Item.TheVariants.{TimedAt, End, Start}
 use Rattle.tp_spec.specs.declared.plan.Mark.{Mark}
 use Rattle.tp_spec.specs.declared.plan.Timed.{Timed}
 use Rattle.trace_text.specs.Traces.{trace_text}
+use Rattle.trace_text.specs.Grammar.{fits_event}
 
 abbrev pub opens : Item → Mark
 opens item = record { fresh = true; item = item }
@@ -58,3 +59,15 @@ TracesOutcomes =
     × (trace_text (Halt Out ∷ []) ≡ codes "trace 1 1\nhalt out\n")
     × (trace_text (Halt Script ∷ []) ≡ codes "trace 1 1\nhalt script\n")
     × (trace_text (Halt Memory ∷ []) ≡ codes "trace 1 1\nhalt memory\n")
+
+-- Actors, ids and indices have 32 bits, ticks have 64.
+abbrev pub Ranges : Type 0
+Ranges =
+    (fits_event (Tick (2 ^ 32 - 1) (2 ^ 64 - 1)) ≡ true)
+    × (fits_event (Tick (2 ^ 32) 0) ≡ false)
+    × (fits_event (Tick 0 (2 ^ 64)) ≡ false)
+    × (fits_event (Drop (2 ^ 32)) ≡ false)
+    × (fits_event (Dispatch (act 0 (2 ^ 64) 0)) ≡ false)
+    × (fits_event (Expand 0 0 (opens (Start (2 ^ 32)) ∷ [])) ≡ false)
+    × (fits_event (Publish 0 0 (record { acts = act 0 0 (2 ^ 64) ∷ []; end = 0 })) ≡ false)
+    × (fits_event (Limit 0 0 (2 ^ 32) 0) ≡ false)

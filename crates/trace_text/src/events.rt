@@ -154,11 +154,7 @@ fn halt_of(rest: &[u8]) -> Option<Event>
 }
 
 /// What stands behind a keyword.
-fn event_behind(
-    alloc: Global,
-    keyword: Keyword,
-    rest: &[u8],
-) -> Result<Option<Event>, NoMemory>
+fn event_behind(alloc: Global, keyword: Keyword, rest: &[u8]) -> Result<Option<Event>, NoMemory>
     ensures { IfOk result (GivesEvent keyword rest.now) }
 {
     match keyword {

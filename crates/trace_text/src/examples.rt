@@ -1,4 +1,4 @@
-ghost use Rattle.trace_text.specs.Examples.{TracesNothing, TracesDrive, TracesTurns, TracesOutcomes};
+ghost use Rattle.trace_text.specs.Examples.{TracesNothing, TracesDrive, TracesTurns, TracesOutcomes, Ranges};
 
 /// Histories and their texts, computed from the definition.
 pub fn traces()
@@ -6,4 +6,5 @@ pub fn traces()
     ensures drive { TracesDrive }
     ensures turns { TracesTurns }
     ensures outcomes { TracesOutcomes }
+    ensures ranges { Ranges }
 {}

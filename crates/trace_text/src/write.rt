@@ -104,13 +104,7 @@ fn put_publish(text: &mut Vec<u8>, actor: u32, id: u32, plan: &Plan) -> Result<(
 }
 
 #[tactic(auto, unfolding(crate::specs::Traces::event_line))]
-fn put_limit(
-    text: &mut Vec<u8>,
-    actor: u32,
-    id: u32,
-    made: u32,
-    marks: u32,
-) -> Result<(), NoMemory>
+fn put_limit(text: &mut Vec<u8>, actor: u32, id: u32, made: u32, marks: u32) -> Result<(), NoMemory>
     ensures { OnOk result (text.new.items ≡ text.old.items
         ++ event_line (Limit actor id made marks)) }
 {
