@@ -253,7 +253,7 @@ script-ends p l script old new held s e = record { follows = subst (λ z. follow
 
 -- One line of a script.
 module _ (p : Problem) (l : Limits) (script : List ScriptLine) (line : ScriptLine) (behind : List ScriptLine) (old : List Event) (held : List (Option JobView)) (s : IsPlaying p l script (line ∷ behind) old held) where
-  own : Option JobView
+  abbrev pub own : Option JobView
   own = held_by held line.actor
 
   pub line-low : line.actor < length held
