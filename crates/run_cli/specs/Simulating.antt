@@ -12,7 +12,7 @@ use Rattle.tp_world.specs.Views.{Outside}
 use Rattle.script_text.specs.Follows.{Follows}
 use Rattle.script_text.specs.Scripts.{IsScript}
 use Rattle.script_text.specs.declared.script.ScriptFault.{ScriptFault}
-use Rattle.script_text.specs.declared.script.ScriptFault.TheVariants.{Line, Holding, Idle, NotBuilt, NoMemory}
+use Rattle.script_text.specs.declared.script.ScriptFault.TheVariants.{Line, Holding, Idle, NoMemory}
 use Rattle.script_text.specs.declared.script.ScriptLine.{ScriptLine}
 use Rattle.serial_runs.specs.Endings.{HasResult, IsHaltedBy}
 use Rattle.run_cli.specs.Outcomes.{EndsAs, PrintsHistory, IsBrokenOff, IsHalfDone}
@@ -76,7 +76,6 @@ abbrev pub script_line : ScriptFault → Option (List ℕ)
 script_line (Line number) = fault_line number (codes "Line")
 script_line (Holding number) = fault_line number (codes "Holding")
 script_line (Idle number) = fault_line number (codes "Idle")
-script_line (NotBuilt number) = fault_line number (codes "NotBuilt")
 script_line NoMemory = None
 
 -- a text is no script, and the line tells its first fault

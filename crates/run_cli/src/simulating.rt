@@ -91,7 +91,6 @@ fn refusal_line(alloc: Global, fault: ScriptFault) -> Result<Option<Vec<u8>>, No
         ScriptFault::Line { number } => fault_line(alloc, number, b"Line"),
         ScriptFault::Holding { number } => fault_line(alloc, number, b"Holding"),
         ScriptFault::Idle { number } => fault_line(alloc, number, b"Idle"),
-        ScriptFault::NotBuilt { number } => fault_line(alloc, number, b"NotBuilt"),
         ScriptFault::NoMemory => Ok(None),
     }
 }

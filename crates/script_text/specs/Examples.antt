@@ -1,6 +1,6 @@
 -- What the definitions say of small scripts and histories, both where a thing holds and where it
 -- does not.
-use Rattle.std.specs.Prelude.{◌≡◌, ℕ, ◌^◌, ◌-◌, Bool, true, false, List, [], ◌∷◌, codes, Ok, Err, None, map}
+use Rattle.std.specs.Prelude.{◌≡◌, ℕ, ◌^◌, ◌-◌, Bool, true, false, List, [], ◌∷◌, codes, Ok, Err, map}
 use Rattle.tp_spec.specs.declared.event.Cause.TheVariants.{Out, Script, Memory}
 use Rattle.tp_spec.specs.declared.event.Event.{Event}
 use Rattle.tp_spec.specs.declared.event.Event.TheVariants.{Tick, Drop, Dispatch, Take, Expand, Exhaust, Halt}
@@ -12,7 +12,7 @@ use Rattle.script_text.specs.declared.script.Verb.{Verb}
 use Rattle.script_text.specs.declared.script.Verb.TheVariants as verbs
 use Rattle.script_text.specs.declared.script.ScriptFault.TheVariants as faults
 use Rattle.script_text.specs.Scripts.{script_of}
-use Rattle.script_text.specs.Playable.{are_in_turn, has_actor}
+use Rattle.script_text.specs.Playable.{nobody, are_in_turn, has_actor}
 use Rattle.script_text.specs.Follows.{follow, nothing}
 
 abbrev pub line : ℕ → Verb → ℕ → ScriptLine
@@ -28,16 +28,22 @@ Scripts = (script_of [] ≡ Ok [])
     ≡ Ok (line 1 verbs.Take 8 ∷ line 2 verbs.Look 8 ∷ line 3 verbs.Merge 8
     ∷ line 4 verbs.Take 8 ∷ []))
 
--- A take by who has one out, and by another one.
+-- A take by who has one out is a fault, whatever others do between; one by another actor is none.
 abbrev pub TwoTakes : Type 0
 TwoTakes = (script_of (codes "1 take 1\n2 take 1\n") ≡ Err (faults.Holding 2))
-    × (script_of (codes "1 take 1\n2 look 0\n3 take 2\n") ≡ Err (faults.NotBuilt 3))
+    × (script_of (codes "1 take 1\n2 take 2\n3 merge 2\n4 take 1\n") ≡ Err (faults.Holding 4))
+    × (script_of (codes "1 take 1\n2 look 0\n3 take 2\n")
+    ≡ Ok (line 1 verbs.Take 1 ∷ line 2 verbs.Look 0 ∷ line 3 verbs.Take 2 ∷ []))
+    × (script_of (codes "1 take 2\n2 take 1\n3 merge 2\n4 take 2\n5 merge 1\n")
+    ≡ Ok (line 1 verbs.Take 2 ∷ line 2 verbs.Take 1 ∷ line 3 verbs.Merge 2
+    ∷ line 4 verbs.Take 2 ∷ line 5 verbs.Merge 1 ∷ []))
 
 -- A merge by who has no take out.
 abbrev pub IdleMerges : Type 0
 IdleMerges = (script_of (codes "1 merge 1\n") ≡ Err (faults.Idle 1))
     × (script_of (codes "1 take 1\n2 merge 1\n3 merge 1\n") ≡ Err (faults.Idle 3))
     × (script_of (codes "1 take 1\n2 merge 2\n") ≡ Err (faults.Idle 2))
+    × (script_of (codes "1 take 1\n2 take 2\n3 merge 1\n4 merge 1\n") ≡ Err (faults.Idle 4))
 
 -- A last piece without a line feed is no line, whatever it says.
 abbrev pub NoFeeds : Type 0
@@ -79,14 +85,16 @@ abbrev pub FirstLines : Type 0
 FirstLines = (script_of (codes "1 merge 1\n2 look 9\n") ≡ Err (faults.Idle 1))
     × (script_of (codes "1 take 1\n2 look 9\n3 take 1\n") ≡ Err (faults.Line 2))
 
--- Each take is merged by who took before anyone takes; the dispatcher only looks.
+-- Each actor takes and merges in turn, while others do the same; the dispatcher only looks.
 abbrev pub Playables : Type 0
-Playables = (are_in_turn None (line 1 verbs.Take 1 ∷ line 2 verbs.Look 2 ∷ line 3 verbs.Merge 1
-    ∷ line 4 verbs.Take 2 ∷ []) ≡ true)
-    × (are_in_turn None (line 1 verbs.Take 1 ∷ line 2 verbs.Merge 2 ∷ []) ≡ false)
-    × (are_in_turn None (line 1 verbs.Merge 1 ∷ []) ≡ false)
-    × (are_in_turn None (line 1 verbs.Take 1 ∷ line 2 verbs.Look 1 ∷ line 3 verbs.Take 1 ∷ [])
-    ≡ false)
+Playables = (are_in_turn nobody (line 1 verbs.Take 1 ∷ line 2 verbs.Look 2
+    ∷ line 3 verbs.Merge 1 ∷ line 4 verbs.Take 2 ∷ []) ≡ true)
+    × (are_in_turn nobody (line 1 verbs.Take 1 ∷ line 2 verbs.Take 2 ∷ line 3 verbs.Merge 1
+    ∷ line 4 verbs.Take 1 ∷ line 5 verbs.Merge 2 ∷ []) ≡ true)
+    × (are_in_turn nobody (line 1 verbs.Take 1 ∷ line 2 verbs.Merge 2 ∷ []) ≡ false)
+    × (are_in_turn nobody (line 1 verbs.Merge 1 ∷ []) ≡ false)
+    × (are_in_turn nobody (line 1 verbs.Take 1 ∷ line 2 verbs.Take 2 ∷ line 3 verbs.Take 1
+    ∷ []) ≡ false)
     × (map has_actor (line 1 verbs.Look 0 ∷ line 1 verbs.Take 0 ∷ line 1 verbs.Take 8
     ∷ line 1 verbs.Look 9 ∷ []) ≡ true ∷ false ∷ true ∷ false ∷ [])
 
@@ -127,6 +135,15 @@ abbrev pub LookLines : Type 0
 LookLines = (follows (line 5 verbs.Look 0 ∷ []) (Tick 0 5 ∷ []) ≡ true)
     × (follows (line 5 verbs.Look 0 ∷ []) (Tick 0 5 ∷ Dispatch (act 0 8 2) ∷ []) ≡ true)
     × (follows (line 5 verbs.Look 2 ∷ []) (Tick 2 5 ∷ Take 2 0 ∷ []) ≡ false)
+
+-- Each merge line is judged by what its own actor took, whatever others took since.
+abbrev pub TwoOut : Type 0
+TwoOut = (follows (line 5 verbs.Take 1 ∷ line 5 verbs.Take 2 ∷ line 6 verbs.Merge 1 ∷ [])
+    (Tick 1 5 ∷ Take 1 0 ∷ Tick 2 5 ∷ Tick 1 6 ∷ Expand 1 0 [] ∷ []) ≡ true)
+    × (follows (line 5 verbs.Take 1 ∷ line 5 verbs.Take 2 ∷ line 6 verbs.Merge 2 ∷ [])
+    (Tick 1 5 ∷ Take 1 0 ∷ Tick 2 5 ∷ Tick 2 6 ∷ []) ≡ true)
+    × (follows (line 5 verbs.Take 1 ∷ line 5 verbs.Take 2 ∷ line 6 verbs.Merge 2 ∷ [])
+    (Tick 1 5 ∷ Take 1 0 ∷ Tick 2 5 ∷ Tick 2 6 ∷ Expand 2 0 [] ∷ []) ≡ false)
 
 -- What a worker took stays its own while others look.
 abbrev pub LooksBetween : Type 0

@@ -7,7 +7,7 @@ use Rattle.script_text.specs.declared.script.ScriptLine.{ScriptLine}
 use Rattle.script_text.specs.declared.script.Verb.{Verb}
 use Rattle.script_text.specs.declared.script.Verb.TheVariants.{Take, Merge, Look}
 use Rattle.script_text.specs.declared.script.ScriptFault.{ScriptFault}
-use Rattle.script_text.specs.declared.script.ScriptFault.TheVariants.{Line, Holding, Idle, NotBuilt, NoMemory}
+use Rattle.script_text.specs.declared.script.ScriptFault.TheVariants.{Line, Holding, Idle, NoMemory}
 
 abbrev pub is_feed : ℕ → Bool
 is_feed b = b == 10
@@ -94,9 +94,7 @@ is_holder holders actor = list_any (λ a. a == actor) holders
 -- fault of the line, the number of which is n.
 abbrev pub turn : ℕ → List ℕ → Verb → ℕ → Result (List ℕ) ScriptFault
 turn n holders Take actor =
-    if is_holder holders actor then Err (Holding n)
-    else (if list_any (λ a. not (a == actor)) holders then Err (NotBuilt n)
-    else Ok (holders ++ actor ∷ []))
+    if is_holder holders actor then Err (Holding n) else Ok (holders ++ actor ∷ [])
 turn n holders Merge actor =
     if is_holder holders actor then Ok (filter (λ a. not (a == actor)) holders)
     else Err (Idle n)
@@ -137,5 +135,4 @@ IsScript text (Ok lines) = script_of text ≡ Ok lines
 IsScript text (Err (Line n)) = script_of text ≡ Err (Line n)
 IsScript text (Err (Holding n)) = script_of text ≡ Err (Holding n)
 IsScript text (Err (Idle n)) = script_of text ≡ Err (Idle n)
-IsScript text (Err (NotBuilt n)) = script_of text ≡ Err (NotBuilt n)
 IsScript text (Err NoMemory) = Unit {0}

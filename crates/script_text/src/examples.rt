@@ -1,5 +1,5 @@
 ghost use Rattle.script_text.specs.Examples.{Scripts, TwoTakes, IdleMerges, NoFeeds, Actors, ReadingTexts, Forms, FirstLines, Playables};
-ghost use Rattle.script_text.specs.Examples.{TakeLines, MergeLines, LookLines, LooksBetween, Ends};
+ghost use Rattle.script_text.specs.Examples.{TakeLines, MergeLines, LookLines, TwoOut, LooksBetween, Ends};
 
 /// Texts, and the lines or the first fault of each.
 pub fn scripts()
@@ -19,6 +19,7 @@ pub fn following()
     ensures takes { TakeLines }
     ensures merges { MergeLines }
     ensures looks { LookLines }
+    ensures two { TwoOut }
     ensures between { LooksBetween }
     ensures ends { Ends }
 {}

@@ -1,7 +1,8 @@
-ghost use Rattle.std.specs.Prelude.{◌≡◌, ◌^◌, ◌<◌, length, IfOk};
+ghost use Rattle.std.specs.Prelude.{◌≡◌, ◌^◌, ◌<◌, ◌==◌, length, not, IfOk};
+ghost use Rattle.std.specs.List.{filter};
 ghost use Rattle.script_text.specs.Playable.{IsPlayable};
-ghost use Rattle.script_text.specs.Reading.{holders_of, seen, Steps};
-ghost use Rattle.script_text.specs.Scripts.{turn, IsScript};
+ghost use Rattle.script_text.specs.Reading.{Steps, Turns};
+ghost use Rattle.script_text.specs.Scripts.{is_holder, turn, IsScript};
 
 use crate::script::{ScriptFault, ScriptLine, Verb};
 use crate::words::line_of;
@@ -9,51 +10,53 @@ use line_text::cut_line;
 use std::alloc::Global;
 use tp_spec::List;
 
-/// Who holds a job behind a line, where one held it before or nobody did; or the fault of the line.
-fn holder_after(
-    number: u32,
-    holder: Option<u32>,
-    verb: Verb,
-    actor: u32,
-) -> Result<Option<u32>, ScriptFault>
-    ensures { seen result ≡ turn number (holders_of holder) verb actor }
+/// Whether an actor is among those who hold a job.
+fn is_holder(holders: &[u32], actor: u32) -> bool
+    ensures { result ≡ is_holder holders.now actor }
+{
+    holders.iter().any(|holder| *holder == actor)
+}
+
+/// Takes an actor out of those who hold a job.
+fn release(holders: &mut Vec<u32>, actor: u32)
+    ensures { holders.new.items ≡ filter (λ a. not (a == actor)) holders.old.items }
+{
+    holders.retain(|holder| *holder != actor);
+}
+
+/// Who holds a job behind a line, where `holders` held one before it; or the fault of the line.
+fn turn(number: u32, holders: &mut Vec<u32>, verb: Verb, actor: u32) -> Result<(), ScriptFault>
+    ensures { Turns (turn number holders.old.items verb actor) result holders.new.items }
 {
     match verb {
-        Verb::Take => match holder {
-            Some(other) => {
-                if other == actor {
-                    Err(ScriptFault::Holding { number })
-                } else {
-                    Err(ScriptFault::NotBuilt { number })
-                }
+        Verb::Take => {
+            if is_holder(holders, actor) {
+                return Err(ScriptFault::Holding { number });
             }
-            None => Ok(Some(actor)),
-        },
-        Verb::Merge => match holder {
-            Some(other) => {
-                if other == actor {
-                    Ok(None)
-                } else {
-                    Err(ScriptFault::Idle { number })
-                }
+            match holders.push(actor) {
+                Ok(()) => Ok(()),
+                Err(_) => Err(ScriptFault::NoMemory),
             }
-            None => Err(ScriptFault::Idle { number }),
-        },
-        Verb::Look => Ok(holder),
+        }
+        Verb::Merge => {
+            if !is_holder(holders, actor) {
+                return Err(ScriptFault::Idle { number });
+            }
+            release(holders, actor);
+            Ok(())
+        }
+        Verb::Look => Ok(()),
     }
 }
 
-/// What the line of this number says, and who holds a job behind it; or its fault.
-fn next_line(
-    number: u32,
-    holder: Option<u32>,
-    text: &[u8],
-) -> Result<(ScriptLine, Option<u32>), ScriptFault>
-    ensures { Steps number holder text.now result }
+/// What the line of this number says, or its fault; `holders` are then those who hold a job behind
+/// it.
+fn next_line(number: u32, holders: &mut Vec<u32>, text: &[u8]) -> Result<ScriptLine, ScriptFault>
+    ensures { Steps number holders.old.items text.now result holders.new.items }
 {
     match line_of(text) {
-        Some(line) => match holder_after(number, holder, line.verb, line.actor) {
-            Ok(after) => Ok((line, after)),
+        Some(line) => match turn(number, holders, line.verb, line.actor) {
+            Ok(()) => Ok(line),
             Err(fault) => Err(fault),
         },
         None => Err(ScriptFault::Line { number }),
@@ -66,18 +69,17 @@ fn lines_of(alloc: Global, text: &[u8]) -> Result<List<ScriptLine>, ScriptFault>
     ensures { IsScript text.now result }
 {
     let mut lines = List::new(alloc);
-    let mut holder = None;
+    let mut holders = Vec::new(alloc);
     let mut number = 1;
     let mut rest = text;
     'lines: loop {
         match cut_line(rest) {
             Some((piece, behind)) => {
-                match next_line(number, holder, piece) {
-                    Ok((line, after)) => {
+                match next_line(number, &mut holders, piece) {
+                    Ok(line) => {
                         if lines.push(line).is_err() {
                             return Err(ScriptFault::NoMemory);
                         }
-                        holder = after;
                     }
                     Err(fault) => return Err(fault),
                 }
@@ -99,8 +101,8 @@ fn lines_of(alloc: Global, text: &[u8]) -> Result<List<ScriptLine>, ScriptFault>
 /// ACTOR is one digit, 0 to 8 for `look` and 1 to 8 for the others. The empty text is a script.
 ///
 /// A fault is that of the first line that has one: `Line` where it has not this form, also a last
-/// piece without a line feed, whatever it says; else `Holding`, `Idle` or `NotBuilt`. `NoMemory`
-/// where memory was refused.
+/// piece without a line feed, whatever it says; else `Holding` or `Idle`. `NoMemory` where memory
+/// was refused.
 pub fn read_script(alloc: Global, text: &[u8]) -> Result<List<ScriptLine>, ScriptFault>
     requires { length text.now < 2 ^ 31 }
     ensures read { IsScript text.now result }

@@ -26,8 +26,6 @@ pub enum ScriptFault {
     Holding { number: u32 },
     /// A merge of an actor that has no such take.
     Idle { number: u32 },
-    /// A take while another actor's last take has no merge behind it.
-    NotBuilt { number: u32 },
     /// Memory was refused; it says nothing of the text.
     NoMemory,
 }

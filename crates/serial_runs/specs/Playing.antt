@@ -1,5 +1,5 @@
 -- What the turns of a script do, line by line.
-use Rattle.std.specs.Prelude.{◌≡◌, ◌⊎◌, ℕ, Bool, true, false, List, [], ◌∷◌, ◌++◌, map, Option, Some, None, IfSome, IfNone, IsTrue}
+use Rattle.std.specs.Prelude.{◌≡◌, ◌⊎◌, ℕ, Bool, true, false, List, [], ◌∷◌, ◌++◌, length, get_or, map, Option, Some, None, IfSome, IsTrue}
 use Rattle.std.specs.List.{list_all}
 use Rattle.tp_spec.specs.declared.event.Cause.TheVariants.{Memory}
 use Rattle.tp_spec.specs.declared.event.Event.{Event}
@@ -14,7 +14,7 @@ use Rattle.script_text.specs.declared.script.ScriptLine.{ScriptLine}
 use Rattle.script_text.specs.declared.script.Verb.{Verb}
 use Rattle.script_text.specs.declared.script.Verb.TheVariants as verbs
 use Rattle.script_text.specs.Follows.{follow, nothing, serves, taken_id}
-use Rattle.script_text.specs.Playable.{are_in_turn}
+use Rattle.script_text.specs.Playable.{are_in_turn, has_actor}
 use Rattle.serial_runs.specs.Endings.{HasResult}
 use Rattle.serial_runs.specs.OneWorker.{HasJob, IsBounded}
 use Rattle.serial_runs.specs.Stopping.{HaltsBy, cause_by}
@@ -89,26 +89,43 @@ pub record StopsUnput (l : Limits) (line : ScriptLine) (took : Option ℕ) (old 
   pub result : has_outcome mid ≡ true → HasResult mid
   pub halts : HaltsBy (cause_by fault) mid new
 
--- The script goes on: what is still to come of it may come, what is held is what its holder's last
--- take took, and what follows the rest from here follows the script.
+-- what an actor holds, of what all hold
+abbrev pub held_by : List (Option JobView) → ℕ → Option JobView
+held_by held actor = get_or held actor None
+
+-- there is a place for each actor, and nobody holds anything
+abbrev pub Nothing : List (Option JobView) → Type 0
+Nothing held = (length held ≡ 9) × ((actor : ℕ) → held_by held actor ≡ None)
+
+-- An actor that holds a job by the script holds what its last take took, if anything; another one
+-- holds nothing.
+pub record IsHeld (p : Problem) (l : Limits) (history : List Event) (actor : ℕ) (holds : Bool)
+    (took : Option ℕ) (job : Option JobView) : Type 0 where
+  pub free : holds ≡ false → job ≡ None
+  pub taken : holds ≡ true → took ≡ id_of job
+  pub is_job : IfSome job (HasJob p l history actor)
+
+-- The script goes on: what is still to come of it may come, each actor holds what its last take
+-- took, and what follows the rest from here follows the script.
 pub record IsPlaying (p : Problem) (l : Limits) (script rest : List ScriptLine)
-    (history : List Event) (held : Option JobView) : Type 0 where
+    (history : List Event) (held : List (Option JobView)) : Type 0 where
   pub bounded : IsBounded p l
   pub whole : IsWholeRun p l history
   pub standing : has_outcome history ≡ false
-  pub holder : Option ℕ
-  pub in_turn : IsTrue (are_in_turn holder rest)
+  pub holds : ℕ → Bool
+  pub in_turn : IsTrue (are_in_turn holds rest)
+  pub actors : IsTrue (list_all has_actor rest)
   pub took : ℕ → Option ℕ
-  pub free : IfNone holder (held ≡ None)
-  pub held_is : IfSome holder (λ a. took a ≡ id_of held)
-  pub job : IfSome held (λ j. IfSome holder (λ a. HasJob p l history a j))
+  pub places : length held ≡ 9
+  pub each : (actor : ℕ)
+      → IsHeld p l history actor (holds actor) (took actor) (held_by held actor)
   pub read : map reading_in script ≡ readings history ++ map reading_in rest
   pub follows : (tail : List Event) → IsTrue (follow l (state_of l history) took rest tail)
       → IsTrue (follow l first nothing script (history ++ tail))
 
 -- the same of a tree of this problem that began as another one
 pub record IsAtLine {C : Type 0} (p : Problem) (began now : TreeView C)
-    (script rest : List ScriptLine) (held : Option JobView) : Type 0 where
+    (script rest : List ScriptLine) (held : List (Option JobView)) : Type 0 where
   pub charter : SameCharter began now
   pub problem : now.problem ≡ p
   pub playing : IsPlaying p now.limits script rest now.history held

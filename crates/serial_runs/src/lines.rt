@@ -87,7 +87,7 @@ pub(crate) fn merge_line<'p, C: Clock>(
     if may_go_on(merged) { Ok(()) } else { Err(Over) }
 }
 
-/// The turn of a line, behind which its actor or the holder holds what it gives.
+/// The turn of a line, behind which its actor holds what it gives.
 pub(crate) fn turn_line<'p, C: Clock>(
     worker: &mut Worker<'p>,
     tree: &mut Tree<'p, C>,

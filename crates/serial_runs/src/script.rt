@@ -1,4 +1,4 @@
-ghost use Rattle.std.specs.Prelude.{◌≡◌, ◌≤◌, ◌^◌, Some, None, [], length, map, true, false, Ok, Err, IfOk, IfErr, IfSome, OnErr};
+ghost use Rattle.std.specs.Prelude.{◌≡◌, ◌<◌, ◌≤◌, ◌^◌, Some, None, [], length, map, set, true, false, Ok, Err, IfOk, IfErr, IfSome, OnErr};
 ghost use Rattle.machine_run.specs.Turns.{has_outcome};
 ghost use Rattle.open_tree.specs.Charter.{SameCharter};
 ghost use Rattle.script_text.specs.Follows.{Follows};
@@ -6,7 +6,7 @@ ghost use Rattle.script_text.specs.Playable.{IsPlayable};
 ghost use Rattle.serial_runs.specs.Commands.{GivesCommands};
 ghost use Rattle.serial_runs.specs.Endings.{EndsScript};
 ghost use Rattle.serial_runs.specs.OneWorker.{HasJob, IsBounded};
-ghost use Rattle.serial_runs.specs.Playing.{GoesPast, StopsPast, StopsUnput, id_of, reading_in};
+ghost use Rattle.serial_runs.specs.Playing.{GoesPast, Nothing, StopsPast, StopsUnput, held_by, id_of, reading_in};
 ghost use Rattle.serial_runs.specs.Stopping.{PutsOn, answer_of};
 ghost use Rattle.script_text.specs.declared.script.Verb.TheVariants as verbs;
 ghost use Rattle.tp_spec.specs.Machine.{IsWholeRun};
@@ -31,7 +31,8 @@ pub struct Played {
 
 /// Plays the lines of a script in order, each as one turn of its actor with its reading of the
 /// clock, in ticks: a take line takes a node, a merge line merges what its actor's take took, or
-/// looks where it took nothing, and a look line makes a turn without a deed. Behind each turn the
+/// looks where it took nothing, and a look line makes a turn without a deed. Each of the actors 1 to
+/// 8 may hold a job while others take and merge. Behind each turn the
 /// commands of what it committed are sent. No line is played behind an outcome; where none stands
 /// behind the last line the run is halted. `NoMemory` where memory was refused before the first
 /// line: nothing was played and nothing was put.
@@ -76,6 +77,30 @@ fn readings_of(alloc: Global, script: &[ScriptLine]) -> Result<Vec<u64>, NoMemor
     Ok(readings)
 }
 
+/// What actors 0 to 8 hold before the first line: nothing.
+fn empty_hands<'p>() -> [Option<Job<'p>>; 9]
+    ensures { Nothing result }
+{
+    [None, None, None, None, None, None, None, None, None]
+}
+
+/// Takes out what an actor holds.
+fn take_out<'p>(held: &mut [Option<Job<'p>>; 9], actor: u32) -> Option<Job<'p>>
+    requires low { actor < length held.old }
+    ensures taken { result ≡ held_by held.old actor }
+    ensures left { held.new ≡ set held.old actor None }
+{
+    held[actor as usize].take()
+}
+
+/// Puts what an actor holds into its place.
+fn put_back<'p>(held: &mut [Option<Job<'p>>; 9], actor: u32, own: Option<Job<'p>>)
+    requires low { actor < length held.old }
+    ensures { held.new ≡ set held.old actor own.entry }
+{
+    held[actor as usize] = own;
+}
+
 /// Plays the lines from the first one on, up to an outcome or a command that could not be put.
 /// Where no outcome stands behind the last line the run is halted.
 fn play<'p, C: Clock, O: Sink>(
@@ -101,16 +126,17 @@ fn play<'p, C: Clock, O: Sink>(
         (O.view out.new) result }
 {
     tree.history();
-    let mut held = None;
+    let mut held = empty_hands();
     let mut rest = script;
     'lines: loop {
         match rest {
             [line, behind @ ..] => {
-                let played = play_line(alloc, problem, worker, tree, out, line, held);
+                let own = take_out(&mut held, line.actor);
+                let played = play_line(alloc, problem, worker, tree, out, line, own);
                 tree.history();
                 match played? {
                     Ok(next) => {
-                        held = next;
+                        put_back(&mut held, line.actor, next);
                         rest = behind;
                     }
                     Err(Over) => return Ok(()),
