@@ -1,11 +1,10 @@
 -- Histories of the drive whose events keep every rule.
-use Rattle.std.proofs.Common.{◌≡◌, refl, sym, ◌∙◌, ℕ, inl, inr, ◌==◌, Bool, true, false, not, List, [], ◌∷◌, ◌++◌, Option, Some, None, arith}
-use Rattle.std.proofs.lemmas.Bool.{false≢true}
+use Rattle.std.proofs.Common.{◌≡◌, refl, ℕ, inl, ◌==◌, Bool, true, false, not, List, [], ◌∷◌, ◌++◌, Option, Some, None, arith}
 use Rattle.tp_spec.specs.declared.event.Event.{Event}
 use Rattle.tp_spec.specs.declared.event.Event.TheVariants.{Tick, Dispatch, Take, Expand, Publish}
 use Rattle.tp_spec.specs.declared.plan.Item.TheVariants.{End}
 use Rattle.tp_spec.specs.Lists.{each_pair}
-use Rattle.tp_spec.specs.Machine.{Machine, Legal, Turn, IsQuiet, MayAct, first}
+use Rattle.tp_spec.specs.Machine.{Machine, Legal, Turn, MayAct, first}
 use Rattle.tp_laws.specs.Examples.{act, opens}
 use Rattle.situated_machine.specs.Rules.{KeepsAll}
 use Rattle.situated_machine.specs.Replays.{AreKept}

@@ -1,25 +1,21 @@
 -- A legal event keeps every rule and is founded, and an event that keeps every rule and is founded is legal.
-use Rattle.std.proofs.Common.{◌≡◌, refl, sym, ap, subst, ◌∙◌, ℕ, ◌⊎◌, inl, inr, ◌==◌, Bool, true, false, not, List, Option, Some, None}
+use Rattle.std.proofs.Common.{◌≡◌, refl, sym, ap, subst, ◌∙◌, ℕ, inl, inr, ◌==◌, true, false, not, List, Option, Some, None}
 use Rattle.std.proofs.lemmas.Bool.{false≢true, eqb-true, eq-eqb}
 use Rattle.tp_spec.specs.declared.event.Event.{Event}
 use Rattle.tp_spec.specs.declared.event.Event.TheVariants.{Tick, Drop, Dispatch, Take, Expand, Publish, Limit, Exhaust, Halt}
 use Rattle.tp_spec.specs.declared.plan.Limits.{Limits}
-use Rattle.tp_spec.specs.declared.plan.Mark.{Mark}
-use Rattle.tp_spec.specs.declared.plan.Plan.{Plan}
 use Rattle.tp_spec.specs.declared.problem.Problem.{Problem}
-use Rattle.tp_spec.specs.Courses.{Possible}
 use Rattle.tp_spec.specs.Lists.{IsIn, BeginsWith, each_pair, some_and}
 use Rattle.tp_spec.specs.Machine.{Machine, Node, Legal, IsBetween, IsQuiet, IsSettled, MayAct, IsTaken, AreLiveMarks, SpellsNone, is_open, open_nodes, word_of}
-use Rattle.tp_spec.specs.Schedules.{IsLeast, Live, plan_of}
+use Rattle.tp_spec.specs.Schedules.{Live}
 use Rattle.tp_spec.specs.Words.{spell}
 use Rattle.tp_laws.proofs.Members.{in-filter}
 use Rattle.tp_laws.proofs.PlanOfStages.{any-of}
 use Rattle.tp_laws.proofs.ValidOfLists.{any-true, filter-passes}
 use Rattle.tp_laws.proofs.WordOfLists.{filter-in}
 use Rattle.run_laws.proofs.Covering.{word_of-in}
-use Rattle.situated_machine.specs.declared.replayed.Rule.{Rule}
 use Rattle.situated_machine.specs.declared.replayed.Rule.TheVariants as rules
-use Rattle.situated_machine.specs.Rules.{HasTurn, HasNode, TakesLeast, TakesLive, HasMarks, CommitsDue, HasPlan, HasNumber, IsInTime, IsOfBest, IsPlanOf, IsFull, Keeps, KeepsAll, MayMakeDeed, has_id, is_taken_by, taken_nodes}
+use Rattle.situated_machine.specs.Rules.{HasTurn, HasNode, TakesLeast, TakesLive, HasMarks, CommitsDue, HasPlan, HasNumber, IsInTime, IsOfBest, IsPlanOf, IsFull, KeepsAll, MayMakeDeed, has_id, is_taken_by, taken_nodes}
 use Rattle.situated_machine.specs.Laws.{IsFounded}
 
 -- ids and takers

@@ -1,5 +1,5 @@
 -- A rule that asks for one thing asks for one alone: live marks, the act that is due, the plan of a word.
-use Rattle.std.proofs.Common.{◌≡◌, refl, sym, ap, subst, ◌∙◌, ℕ, zero, suc, ◌+◌, ◌-◌, ◌<◌, ◌≤◌, ◌==◌, nat_lt, nat_le, Bool, true, false, not, cond, ◌&&◌, ◌||◌, List, [], ◌∷◌, ◌++◌, map, Option, Some, None, inl, inr, arith}
+use Rattle.std.proofs.Common.{◌≡◌, refl, sym, ap, subst, ◌∙◌, ℕ, zero, suc, ◌-◌, ◌<◌, ◌≤◌, ◌==◌, nat_lt, nat_le, Bool, true, false, not, cond, ◌&&◌, ◌||◌, List, [], ◌∷◌, map, Option, Some, None, inl, inr, arith}
 use Rattle.std.specs.Prelude.{IfSome}
 use Rattle.std.specs.List.{AllByRecursion as Each}
 use Rattle.std.proofs.lemmas.Bool.{and_parts, false≢true, eq-eqb}
@@ -12,9 +12,9 @@ use Rattle.tp_spec.specs.declared.plan.Timed.{Timed}
 use Rattle.tp_spec.specs.declared.problem.Problem.{Problem}
 use Rattle.tp_spec.specs.Items.{item_before, kind_index, number}
 use Rattle.tp_spec.specs.Lists.{IsIn, each_next, each_pair}
-use Rattle.tp_spec.specs.Machine.{Machine, Node, AreLiveMarks, IsBest, IsDue, candidate, mark_before, no_worse, rank, word_of}
+use Rattle.tp_spec.specs.Machine.{Machine, Node, AreLiveMarks, IsBest, IsDue, candidate, mark_before, no_worse, rank}
 use Rattle.tp_spec.specs.Schedules.{Schedule, IsGreatest, IsLeast, finish, last_tick, plan_of, timed_act}
-use Rattle.tp_spec.specs.Words.{Act, Sound, acts_of, groups, spell}
+use Rattle.tp_spec.specs.Words.{Act, Sound, acts_of, groups}
 use Rattle.tp_laws.specs.Clocks.{HasActsInGroups}
 use Rattle.tp_laws.specs.Plans.{WordsOfPlansAreSound}
 use Rattle.tp_laws.proofs.ClockActs.{sound-acts}

@@ -3,7 +3,7 @@ use Rattle.std.specs.Prelude.{◌≡◌, ℕ, List, [], ◌∷◌, ◌++◌, len
 use Rattle.tp_spec.specs.declared.event.Event.{Event}
 use Rattle.tp_spec.specs.declared.plan.Limits.{Limits}
 use Rattle.tp_spec.specs.declared.problem.Problem.{Problem}
-use Rattle.tp_spec.specs.Machine.{Machine, first, step, end_of, state_of}
+use Rattle.tp_spec.specs.Machine.{Machine, first, step, state_of}
 use Rattle.situated_machine.specs.declared.replayed.Replayed.{Replayed}
 use Rattle.situated_machine.specs.declared.replayed.Replayed.TheVariants.{Run, Broken}
 use Rattle.situated_machine.specs.declared.replayed.Rule.{Rule}

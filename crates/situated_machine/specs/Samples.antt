@@ -1,16 +1,15 @@
 -- A drive, the runs of its search, and machines in the midst of one, against which the rules are
 -- checked.
-use Rattle.std.specs.Prelude.{ℕ, ◌+◌, false, List, [], ◌∷◌, ◌++◌, Option, Some, None, codes}
+use Rattle.std.specs.Prelude.{ℕ, ◌+◌, false, List, [], ◌∷◌, ◌++◌, Option, Some, codes}
 use Rattle.tp_spec.specs.declared.event.Event.{Event}
 use Rattle.tp_spec.specs.declared.event.Event.TheVariants.{Tick, Take, Expand, Publish}
 use Rattle.tp_spec.specs.declared.plan.Item.TheVariants.{End, Start}
 use Rattle.tp_spec.specs.declared.plan.Limits.{Limits}
 use Rattle.tp_spec.specs.declared.plan.Mark.{Mark}
 use Rattle.tp_spec.specs.declared.plan.Plan.{Plan}
-use Rattle.tp_spec.specs.declared.plan.Timed.{Timed}
 use Rattle.tp_spec.specs.declared.problem.Effect.TheVariants.{Add, Delete}
 use Rattle.tp_spec.specs.declared.problem.Kind.TheVariants.{Durative}
-use Rattle.tp_spec.specs.Machine.{Machine, Node, Turn}
+use Rattle.tp_spec.specs.Machine.{Machine, Node}
 use Rattle.tp_spec.specs.WellFormed.{Ground}
 use Rattle.tp_laws.specs.Examples.{act, plan, truth, opens}
 

@@ -1,4 +1,4 @@
-use Rattle.std.proofs.Common.{◌≡◌, refl, ap, sym, ◌∙◌, ℕ, inl, inr, Bool, true, false, List, [], ◌∷◌, ◌++◌, Option, Some, None, arith}
+use Rattle.std.proofs.Common.{◌≡◌, refl, ap, sym, ℕ, inl, inr, true, false, List, [], ◌∷◌, ◌++◌, Option, Some, None, arith}
 use Rattle.std.proofs.lemmas.Bool.{false≢true}
 use Rattle.tp_spec.specs.declared.event.Cause.TheVariants.{Script}
 use Rattle.tp_spec.specs.declared.event.Event.TheVariants.{Tick, Take, Expand, Publish, Exhaust, Halt}
@@ -6,7 +6,7 @@ use Rattle.tp_spec.specs.Machine.{Node, Turn, IsSettled, first}
 use Rattle.tp_laws.specs.Examples.{act}
 use Rattle.situated_machine.specs.declared.replayed.Rule.TheVariants as rules
 use Rattle.situated_machine.specs.Samples.{drive, narrow, driving, expands_root, takes_arrived, drives_at}
-use Rattle.situated_machine.proofs.Drives.{mach, due-driving, quiet-root}
+use Rattle.situated_machine.proofs.Drives.{due-driving, quiet-root}
 use Rattle.situated_machine.proofs.Firsts.{breaks}
 use Rattle.situated_machine.proofs.Histories.{at_root, at_driving, turn_of, root-ticks, driving-ticks, takes-kept, expands-kept}
 use Rattle.situated_machine.proofs.Judging.{legal-keeps}

@@ -1,13 +1,12 @@
-use Rattle.std.proofs.Common.{◌≡◌, refl, sym, ap, subst, ◌∙◌, ℕ, ◌≤◌, ◌<◌, ◌+◌, inl, inr, Bool, true, false, List, [], ◌∷◌, ◌++◌, Option, Some, None, arith}
+use Rattle.std.proofs.Common.{◌≡◌, refl, ap, ℕ, ◌≤◌, true, false, List, [], ◌∷◌, ◌++◌, Some, None, arith}
 use Rattle.tp_spec.specs.declared.event.Event.TheVariants.{Tick, Dispatch, Take, Expand, Publish, Limit}
 use Rattle.tp_spec.specs.declared.plan.Item.TheVariants.{Start}
 use Rattle.tp_spec.specs.declared.plan.Plan.{Plan}
 use Rattle.tp_spec.specs.declared.plan.Timed.{Timed}
-use Rattle.tp_spec.specs.Machine.{IsDue, AreLiveMarks, SpellsNone}
 use Rattle.tp_laws.specs.Examples.{act, opens}
 use Rattle.situated_machine.specs.declared.replayed.Rule.TheVariants as rules
-use Rattle.situated_machine.specs.Rules.{IsFull, IsPlanOf}
-use Rattle.situated_machine.specs.Samples.{drive, narrow, driving, arrived, expands_root, takes_arrived, drives_at, node}
+use Rattle.situated_machine.specs.Rules.{IsPlanOf}
+use Rattle.situated_machine.specs.Samples.{drive, narrow, arrived, expands_root, takes_arrived, drives_at}
 use Rattle.situated_machine.proofs.Drives.{arriving, least-arrived, live-driving, quiet-root, quiet-driving, root-spells-none}
 use Rattle.situated_machine.proofs.Firsts.{breaks}
 use Rattle.situated_machine.proofs.Histories.{at_root, at_driving, at_arrived, turn_of, root-ticks, driving-ticks, takes-kept, expands-kept, arrives-kept}

@@ -1,8 +1,8 @@
-use Rattle.std.proofs.Common.{◌≡◌, refl, sym, ap, subst, ◌∙◌, ℕ, ◌≤◌, inl, inr, Bool, true, false, List, [], ◌∷◌, ◌++◌, Option, Some, None, arith}
+use Rattle.std.proofs.Common.{◌≡◌, refl, sym, ap, subst, ◌∙◌, ℕ, ◌≤◌, inl, inr, true, false, List, [], ◌∷◌, ◌++◌, None, arith}
 use Rattle.std.specs.List.{list_all}
 use Rattle.std.proofs.lemmas.Bool.{false≢true}
 use Rattle.tp_spec.specs.declared.event.Event.TheVariants.{Tick, Take}
-use Rattle.tp_spec.specs.Machine.{Node, IsBest, rank, no_worse}
+use Rattle.tp_spec.specs.Machine.{Node, rank, no_worse}
 use Rattle.tp_spec.specs.Schedules.{Live}
 use Rattle.situated_machine.specs.declared.replayed.Rule.TheVariants as rules
 use Rattle.situated_machine.specs.Rules.{IsOfBest}
