@@ -93,8 +93,8 @@ module _ (p : Problem) (l : Limits) where
   one-place m (c ∷ fa) (d ∷ fb) a b xs ys r s e ka kb ba bb =
       let same : c ≡ d = head-same c d (fa ++ a ∷ xs) (fb ++ b ∷ ys) e in
       let q : (length fa ≡ length fb) × (r ≡ s) = one-place (step l m c) fa fb a b xs ys r s (tail-same c d (fa ++ a ∷ xs) (fb ++ b ∷ ys) e) ka.1
-          (subst (λ x. AreKept p l (step l m x) fb) (sym same) kb.1) ba
-          (subst (λ x. BreaksFirst p l (end_of l (step l m x) fb) b s) (sym same) bb) in
+      (subst (λ x. AreKept p l (step l m x) fb) (sym same) kb.1) ba
+      (subst (λ x. BreaksFirst p l (end_of l (step l m x) fb) b s) (sym same) bb) in
       (ap suc q.0, q.1)
 
   kept-at : (m : Machine) (front : List Event) (e : Event) (rest : List Event) → AreKept p l m (front ++ e ∷ rest) → KeepsAll p l (end_of l m front) e

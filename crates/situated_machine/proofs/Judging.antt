@@ -37,12 +37,14 @@ has-taken m actor id n h =
 
 pub taken-node : (m : Machine) (actor id : ℕ) → has_id id (taken_nodes actor m.nodes) ≡ true → (n : Node) × IsTaken m actor id n
 taken-node m actor id h =
-    let r : (n : Node) × IsIn n (taken_nodes actor m.nodes) × (n.id ≡ id) = has-node id (taken_nodes actor m.nodes) h in
-    (r.0, record {
-      there = in-filter (is_taken_by actor) r.0 m.nodes r.1;
-      named = r.2;
-      taken = by_taker actor r.0.taker (filter-passes (is_taken_by actor) m.nodes r.0 r.1);
-    })
+    let r : (n : Node) × IsIn n (taken_nodes actor m.nodes) × (n.id ≡ id) = has-node id (taken_nodes actor m.nodes) h in (
+      r.0,
+      record {
+        there = in-filter (is_taken_by actor) r.0 m.nodes r.1;
+        named = r.2;
+        taken = by_taker actor r.0.taker (filter-passes (is_taken_by actor) m.nodes r.0 r.1);
+      },
+    )
 
 module _ (p : Problem) (l : Limits) (m : Machine) (told_apart : each_pair (λ a b. not (a.id == b.id)) m.nodes ≡ true) where
   pub word-of : (id : ℕ) (n : Node) → IsIn n m.nodes → n.id ≡ id → word_of id m.nodes ≡ n.word

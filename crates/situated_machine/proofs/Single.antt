@@ -84,8 +84,8 @@ same-rising (a ∷ xs) [] r s f g = absurd (f a (inl refl))
 same-rising (a ∷ xs) (b ∷ zs) r s f g =
     by_heads
     (λ e. same-rising xs zs r.1 s.1
-        (λ x i. only x b zs (λ same. behind x a xs (same ∙ sym e) r.0 i) (f x (inr i)))
-        (λ x i. only x a xs (λ same. behind x b zs (same ∙ e) s.0 i) (g x (inr i))))
+    (λ x i. only x b zs (λ same. behind x a xs (same ∙ sym e) r.0 i) (f x (inr i)))
+    (λ x i. only x a xs (λ same. behind x b zs (same ∙ e) s.0 i) (g x (inr i))))
     (f a (inl refl)) (g b (inl refl))
   where
     by_heads : (a ≡ b → xs ≡ zs) → IsIn a (b ∷ zs) → IsIn b (a ∷ xs) → ◌≡◌ {A = List Mark} (a ∷ xs) (b ∷ zs)
