@@ -1,0 +1,7 @@
+pub mod Judging
+pub mod Answering
+pub mod Orderly
+pub mod Single
+pub mod Firsts
+pub mod Drives
+pub mod Histories

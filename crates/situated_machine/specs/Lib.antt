@@ -1,0 +1,5 @@
+pub mod Rules
+pub mod Replays
+pub mod Laws
+pub mod Samples
+pub mod Pinned
