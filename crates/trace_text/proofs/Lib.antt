@@ -1,0 +1,9 @@
+pub mod Numerals
+pub mod Seams
+pub mod Listing
+pub mod Fronts
+pub mod Behind
+pub mod Forms
+pub mod TraceLines
+pub mod Headers
+pub mod Continued
