@@ -24,8 +24,8 @@ pub ground_files-requires : goal.ground_files-requires
 ground_files-requires g c =
     ground-range (map string_bytes c.args.words.now) c.in-Ok-Ground.domain c.in-Ok-Ground.problem c.in-Ok-Ground.scale (c.in-Ok-Ground.ensures ∙ ap Ok c.in-Ok-Ground.field-0-is)
 
-pub returns-in-Err-clause-ends : goal.returns-in-Err-clause-ends
-returns-in-Err-clause-ends g c =
+pub returns-clause-ends : goal.returns-clause-ends
+returns-clause-ends g c =
     let before : Outside = record { files = g.F.Files.view c.args.files.now; sink = g.O.Sink.view c.args.out.now } in
     let after : Outside = record { files = g.F.Files.view c.args.files.now; sink = g.O.Sink.view c.refuse_words.new.out } in
     fault-local c.in-Err.fault (order_of (map string_bytes c.args.words.now)) c.in-Err.ensures before after refl c.refuse_words.result.status c.refuse_words.result.history.items
