@@ -15,6 +15,8 @@ pub struct Case {
     pub loads: Vec<u64>,
     /// The numbers of the puts that fail, from 0, with how many of their bytes still go out.
     pub puts: Vec<(u64, u64)>,
+    /// The names of files of nothing but line feeds, with how many these are.
+    pub blank: Vec<(String, u64)>,
 }
 
 /// The most words of a line.
@@ -55,8 +57,16 @@ fn pair_of(text: &str) -> io::Result<(u64, u64)> {
     Ok((number_of(first)?, number_of(second)?))
 }
 
+/// A name and a number with a `:` between them.
+fn named_number_of(alloc: Global, text: &str) -> io::Result<(String, u64)> {
+    let Some((name, number)) = text.split_once(':') else {
+        return Err(unfit());
+    };
+    Ok((String::from_str(alloc, name)?, number_of(number)?))
+}
+
 /// Reads what one word says of the outside: `local`, `clock=` and `loads=` with numbers, `put=`
-/// with a number and how many bytes still go out.
+/// with a number and how many bytes still go out, `blank=` with a file and its length in bytes.
 fn set_outside(alloc: Global, case: &mut Case, word: &str) -> io::Result<()> {
     if word == "local" {
         case.local = true;
@@ -66,6 +76,8 @@ fn set_outside(alloc: Global, case: &mut Case, word: &str) -> io::Result<()> {
         case.loads = numbers_of(alloc, numbers)?;
     } else if let Some(pair) = word.strip_prefix("put=") {
         case.puts.push(pair_of(pair)?)?;
+    } else if let Some(named) = word.strip_prefix("blank=") {
+        case.blank.push(named_number_of(alloc, named)?)?;
     } else {
         return Err(unfit());
     }
@@ -83,6 +95,7 @@ pub fn case_of(alloc: Global, line: &str) -> io::Result<Case> {
         readings: Vec::new(alloc),
         loads: Vec::new(alloc),
         puts: Vec::new(alloc),
+        blank: Vec::new(alloc),
     };
     for word in outside.split(' ') {
         if !word.is_empty() {

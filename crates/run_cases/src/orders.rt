@@ -24,7 +24,7 @@ fn scale_of(source: &Source) -> u32 {
 /// The numbers of an order.
 fn numbers_in(order: &Order) -> Numbers {
     match order {
-        Order::Solve { source, limits }
+        Order::Solve { source, limits, .. }
         | Order::Simulate { source, limits, .. }
         | Order::Validate { source, limits, .. } => Numbers {
             limits: Some(*limits),

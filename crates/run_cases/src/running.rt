@@ -12,7 +12,16 @@ pub fn unfit() -> io::Error {
     io::Error::from(io::ErrorKind::InvalidData)
 }
 
-/// The files that the words of a case name and the disk has.
+/// So many line feeds.
+fn blank_of(alloc: Global, count: u64) -> io::Result<Vec<u8>> {
+    let mut bytes = Vec::new(alloc);
+    for _ in 0..count {
+        bytes.push(b'\n')?;
+    }
+    Ok(bytes)
+}
+
+/// The files that the words of a case name and the disk has, and the blank ones.
 fn contents_of(
     alloc: Global,
     disk: &mut impl Files,
@@ -24,10 +33,14 @@ fn contents_of(
             contents.push((String::from_str(alloc, word.as_str())?, content))?;
         }
     }
+    for (name, count) in &case.blank {
+        let name = String::from_str(alloc, name.as_str())?;
+        contents.push((name, blank_of(alloc, *count)?))?;
+    }
     Ok(contents)
 }
 
-/// Files in memory: each one that a word of the case names and the disk has.
+/// Files in memory: each one that a word of the case names and the disk has, and the blank ones.
 fn files_of(alloc: Global, disk: &mut impl Files, case: &Case) -> io::Result<MemoryFiles> {
     let contents = contents_of(alloc, disk, case)?;
     let loads = Vec::from_slice(alloc, &case.loads)?;
@@ -77,19 +90,18 @@ fn end_of_local(
     })
 }
 
-/// Runs a case, whose output goes into a sink.
+/// Runs a case over files, with its output into a sink.
 fn end_in(
     alloc: Global,
-    disk: &mut impl Files,
     case: &Case,
+    files: &mut MemoryFiles,
     out: &mut MemorySink,
 ) -> io::Result<Ended> {
-    let mut files = files_of(alloc, disk, case)?;
     let clock = ListClock::new(Vec::from_slice(alloc, &case.readings)?);
     let ended = if case.local {
-        end_of_local(alloc, case, &mut files, out, clock)
+        end_of_local(alloc, case, files, out, clock)
     } else {
-        end_of(alloc, case, &mut files, out, clock)
+        end_of(alloc, case, files, out, clock)
     };
     ended.ok_or(unfit())
 }
@@ -108,6 +120,23 @@ fn last_end(shown: &str) -> &'static str {
     }
 }
 
+/// The trace file of a case, where the words name one and there is one: a line with its name and
+/// its length in bytes, and what it holds.
+fn kept_in(alloc: Global, case: &Case, files: &MemoryFiles) -> io::Result<String> {
+    let mut kept = String::new(alloc);
+    let mut is_named = false;
+    for word in &case.words {
+        if is_named {
+            if let Some(content) = files.content(word.as_str()) {
+                let shown = text_of(alloc, content)?;
+                kept = format!(in alloc; "kept {word}, bytes {}\n{shown}", shown.len())?;
+            }
+        }
+        is_named = word.as_str() == "--trace";
+    }
+    Ok(kept)
+}
+
 /// An output, and the line of how its run ended.
 fn shown_end(alloc: Global, shown: &str, ended: Ended) -> io::Result<String> {
     let end = last_end(shown);
@@ -121,10 +150,14 @@ fn shown_end(alloc: Global, shown: &str, ended: Ended) -> io::Result<String> {
 }
 
 /// Runs a case, and gives what its output holds, and a line with the status, the number of events,
-/// and that of the bytes.
+/// and that of the bytes; then the trace file that it leaves.
 pub fn run_case(alloc: Global, disk: &mut impl Files, case: &Case) -> io::Result<String> {
+    let mut files = files_of(alloc, disk, case)?;
     let mut out = MemorySink::new(alloc, Vec::from_slice(alloc, &case.puts)?);
-    let ended = end_in(alloc, disk, case, &mut out)?;
+    let ended = end_in(alloc, case, &mut files, &mut out)?;
     let shown = text_of(alloc, out.bytes())?;
-    shown_end(alloc, shown.as_str(), ended)
+    let shown = shown_end(alloc, shown.as_str(), ended)?;
+    let kept = kept_in(alloc, case, &files)?;
+    let text = format!(in alloc; "{shown}{kept}")?;
+    Ok(text)
 }

@@ -13,10 +13,10 @@ line_round command files = command_name command ++ codes " " ++ files ++ options
 one_or_two : files_text 1 2 ≡ codes "1-2"
 one_or_two = λ i. decimal_digit 1 (omega arith) i ++ codes "-" ++ decimal_digit 2 (omega arith) i
 
-solve_line : command_line Solve ≡ codes "solve 1-2 --lead --actions --horizon --nodes --scale\n"
+solve_line : command_line Solve ≡ codes "solve 1-2 --lead --actions --horizon --nodes --scale --trace\n"
 solve_line = ap (line_round Solve) one_or_two
 
-simulate_line : command_line Simulate ≡ codes "simulate 1-2 --script --lead --actions --horizon --nodes --scale\n"
+simulate_line : command_line Simulate ≡ codes "simulate 1-2 --script --lead --actions --horizon --nodes --scale --trace\n"
 simulate_line = ap (line_round Simulate) one_or_two
 
 validate_line : command_line Validate ≡ codes "validate 1-2 --plan --actions --horizon --scale\n"
@@ -28,5 +28,5 @@ ground_line = ap (line_round Ground) (decimal_digit 2 (omega arith))
 help_line : command_line Help ≡ codes "help 0\n"
 help_line = ap (line_round Help) (decimal_digit 0 (omega arith))
 
-shown : help_text ≡ codes "solve 1-2 --lead --actions --horizon --nodes --scale\nsimulate 1-2 --script --lead --actions --horizon --nodes --scale\nvalidate 1-2 --plan --actions --horizon --scale\nground 2 --scale\nhelp 0\n"
+shown : help_text ≡ codes "solve 1-2 --lead --actions --horizon --nodes --scale --trace\nsimulate 1-2 --script --lead --actions --horizon --nodes --scale --trace\nvalidate 1-2 --plan --actions --horizon --scale\nground 2 --scale\nhelp 0\n"
 shown = λ i. solve_line i ++ (simulate_line i ++ (validate_line i ++ (ground_line i ++ (help_line i ++ []))))

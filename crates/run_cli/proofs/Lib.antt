@@ -4,6 +4,7 @@ pub mod Played
 pub mod FirstLoads
 pub mod SourceReads
 pub mod Sourced
+pub mod Traced
 pub mod Stopping
 pub mod Scripted
 pub mod Outcomes

@@ -8,7 +8,7 @@ use Rattle.word_network.specs.Conditions.{AreLimits}
 use Rattle.run_cli.specs.declared.options.Command.{Command}
 use Rattle.run_cli.specs.declared.options.Command.TheVariants as commands
 use Rattle.run_cli.specs.declared.options.Numbers.{Numbers}
-use Rattle.run_cli.specs.declared.options.Setting.TheVariants.{Lead, Actions, Horizon, Nodes, Scale, Script, PlanFile}
+use Rattle.run_cli.specs.declared.options.Setting.TheVariants.{Lead, Actions, Horizon, Nodes, Scale}
 use Rattle.run_cli.specs.declared.words.Order.{Order}
 use Rattle.run_cli.specs.declared.words.Order.TheVariants.{Solve, Simulate, Validate, Ground, Help}
 use Rattle.run_cli.specs.declared.words.Source.{Source}
@@ -17,7 +17,7 @@ use Rattle.run_cli.specs.declared.words.WordFault.{WordFault}
 use Rattle.run_cli.specs.declared.words.WordFault.TheVariants.{FileCount}
 use Rattle.run_cli.specs.Arguments.{Argument, arguments_of}
 use Rattle.run_cli.specs.Options.{is_number, is_scale, within, among, command_named, options_of, takes}
-use Rattle.run_cli.specs.Orders.{number_or, number_of, limits_of, source_from, order_with, with_source, is_help, order_from, judged, faults_from, files_of, first_name, second_name, value_of, is_given, whole_order, commanded, order_of}
+use Rattle.run_cli.specs.Orders.{number_or, number_of, limits_of, source_from, NamedFiles, named_of, simulation, validation, grounding, order_with, with_source, is_help, order_from, judged, faults_from, files_of, first_name, second_name, value_of, is_given, whole_order, commanded, order_of}
 use Rattle.run_cli.specs.Sources.{IsScaled}
 
 within-most : (low high n default : ℕ) → default ≤ high → unwrap_or (within low high n) default ≤ high
@@ -70,37 +70,47 @@ scale-is arguments = number-scale (value_of arguments Scale)
 
 -- the limits and the scale of an order
 abbrev Orders : Result Order WordFault → Type 0
-Orders (Ok (Solve source limits)) = AreLimits limits × IsScaled source
-Orders (Ok (Simulate source script limits)) = AreLimits limits × IsScaled source
+Orders (Ok (Solve source limits trace)) = AreLimits limits × IsScaled source
+Orders (Ok (Simulate source script limits trace)) = AreLimits limits × IsScaled source
 Orders (Ok (Validate source plan limits)) = IsScaled source
 Orders (Ok (Ground domain problem scale)) = IsScale scale
 Orders (Ok Help) = Unit {0}
 Orders (Err fault) = Unit {0}
 
-with-orders : (command : Command) (count : ℕ) (script plan : Option (List ℕ)) (limits : Limits) (source : Source) → AreLimits limits → IsScaled source
-    → Orders (order_with command count script plan limits source)
-with-orders commands.Solve count script plan limits source are is = (are, is)
-with-orders commands.Simulate count None plan limits source are is = tt
-with-orders commands.Simulate count (Some script) plan limits source are is = (are, is)
-with-orders commands.Validate count script None limits source are is = tt
-with-orders commands.Validate count script (Some plan) limits source are is = is
-with-orders commands.Ground count script plan limits (GroundText name) are is = tt
-with-orders commands.Ground count script plan limits (Pddl domain problem scale) are is = is
-with-orders commands.Help count script plan limits source are is = tt
+simulation-orders : (count : ℕ) (script : Option (List ℕ)) (source : Source) (limits : Limits) (trace : Option (List ℕ)) → AreLimits limits → IsScaled source
+    → Orders (simulation count script source limits trace)
+simulation-orders count None source limits trace are is = tt
+simulation-orders count (Some script) source limits trace are is = (are, is)
 
-source-orders : (command : Command) (count : ℕ) (script plan : Option (List ℕ)) (limits : Limits) → AreLimits limits → (first second : Option (List ℕ)) (scaled : Bool) (scale : ℕ) → IsScale scale
-    → Orders (with_source (order_with command count script plan limits) (source_from count first second scaled scale))
-source-orders command count script plan limits are None second scaled scale is = tt
-source-orders command count script plan limits are (Some name) None true scale is = tt
-source-orders command count script plan limits are (Some name) None false scale is = with-orders command count script plan limits (GroundText name) are tt
-source-orders command count script plan limits are (Some domain) (Some problem) scaled scale is = with-orders command count script plan limits (Pddl domain problem scale) are is
+validation-orders : (count : ℕ) (plan : Option (List ℕ)) (source : Source) (limits : Limits) → IsScaled source → Orders (validation count plan source limits)
+validation-orders count None source limits is = tt
+validation-orders count (Some plan) source limits is = is
+
+grounding-orders : (count : ℕ) (source : Source) → IsScaled source → Orders (grounding count source)
+grounding-orders count (GroundText name) is = tt
+grounding-orders count (Pddl domain problem scale) is = is
+
+with-orders : (command : Command) (count : ℕ) (named : NamedFiles) (limits : Limits) (source : Source) → AreLimits limits → IsScaled source
+    → Orders (order_with command count named limits source)
+with-orders commands.Solve count named limits source are is = (are, is)
+with-orders commands.Simulate count named limits source are is = simulation-orders count named.script source limits named.trace are is
+with-orders commands.Validate count named limits source are is = validation-orders count named.plan source limits is
+with-orders commands.Ground count named limits source are is = grounding-orders count source is
+with-orders commands.Help count named limits source are is = tt
+
+source-orders : (command : Command) (count : ℕ) (named : NamedFiles) (limits : Limits) → AreLimits limits → (first second : Option (List ℕ)) (scaled : Bool) (scale : ℕ) → IsScale scale
+    → Orders (with_source (order_with command count named limits) (source_from count first second scaled scale))
+source-orders command count named limits are None second scaled scale is = tt
+source-orders command count named limits are (Some name) None true scale is = tt
+source-orders command count named limits are (Some name) None false scale is = with-orders command count named limits (GroundText name) are tt
+source-orders command count named limits are (Some domain) (Some problem) scaled scale is = with-orders command count named limits (Pddl domain problem scale) are is
 
 from-orders : (command : Command) (count : ℕ) (arguments : List Argument) → Orders (order_from command count arguments)
 from-orders command count arguments = by_help (is_help command) where
-  by_help : (b : Bool) → Orders (cond b (Ok Help) (with_source (order_with command count (value_of arguments Script) (value_of arguments PlanFile) (limits_of arguments))
+  by_help : (b : Bool) → Orders (cond b (Ok Help) (with_source (order_with command count (named_of arguments) (limits_of arguments))
       (source_from count (first_name (files_of arguments)) (second_name (files_of arguments)) (is_given arguments Scale) (number_of arguments Scale))))
   by_help true = tt
-  by_help false = source-orders command count (value_of arguments Script) (value_of arguments PlanFile) (limits_of arguments) (limits-are arguments)
+  by_help false = source-orders command count (named_of arguments) (limits_of arguments) (limits-are arguments)
       (first_name (files_of arguments)) (second_name (files_of arguments)) (is_given arguments Scale) (number_of arguments Scale) (scale-is arguments)
 
 judged-orders : (order : Result Order WordFault) (faults : List WordFault) → Orders order → Orders (judged order faults)
@@ -125,11 +135,11 @@ orders [] = tt
 orders (word ∷ rest) = words-order (command_named word) rest
 
 -- what words order has limits and a scale in range
-pub solve-range : (words : List (List ℕ)) (source : Source) (limits : Limits) → order_of words ≡ Ok (Solve source limits) → AreLimits limits × IsScaled source
-solve-range words source limits is = subst Orders is (orders words)
+pub solve-range : (words : List (List ℕ)) (source : Source) (limits : Limits) (trace : Option (List ℕ)) → order_of words ≡ Ok (Solve source limits trace) → AreLimits limits × IsScaled source
+solve-range words source limits trace is = subst Orders is (orders words)
 
-pub simulate-range : (words : List (List ℕ)) (source : Source) (script : List ℕ) (limits : Limits) → order_of words ≡ Ok (Simulate source script limits) → AreLimits limits × IsScaled source
-simulate-range words source script limits is = subst Orders is (orders words)
+pub simulate-range : (words : List (List ℕ)) (source : Source) (script : List ℕ) (limits : Limits) (trace : Option (List ℕ)) → order_of words ≡ Ok (Simulate source script limits trace) → AreLimits limits × IsScaled source
+simulate-range words source script limits trace is = subst Orders is (orders words)
 
 pub validate-range : (words : List (List ℕ)) (source : Source) (plan : List ℕ) (limits : Limits) → order_of words ≡ Ok (Validate source plan limits) → IsScaled source
 validate-range words source plan limits is = subst Orders is (orders words)

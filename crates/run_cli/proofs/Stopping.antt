@@ -26,7 +26,9 @@ use Rattle.run_cli.specs.declared.words.Source.{Source}
 use Rattle.run_cli.specs.declared.words.Source.TheVariants.{GroundText, Pddl}
 use Rattle.run_cli.specs.declared.words.WordFault.{WordFault}
 use Rattle.run_cli.specs.declared.words.WordFault.TheVariants as faults
+use Rattle.run_cli.specs.Tracing.{KeepsSolve, KeepsSimulate}
 use Rattle.run_cli.proofs.FirstLoads.{all-asked, none-asked, stopped-front}
+use Rattle.run_cli.proofs.Traced.{seven-keeps}
 
 -- there is no problem: a front of the files was asked for
 pub unread-front : (source : Source) (further : List Wanted) (before after : FilesView) (status : ℕ) (line : List ℕ) → HasNoProblem source further before after status line
@@ -79,18 +81,38 @@ module _ (before after : Outside) (unasked : after.files ≡ before.files) where
   memory-script : (source : Source) (script : List ℕ) (status : ℕ) → PrintsNothing before.sink after.sink status → EndsUnplayed source script before after status
   memory-script source script status nothing = inr (record { asked = none-asked (source_files source ++ script_files script) unasked; printed = nothing })
 
+  memory-simulate : (source : Source) (script : List ℕ) (limits : Limits) (trace : Option (List ℕ)) (status : ℕ) (history : List Event) → PrintsNothing before.sink after.sink status → history ≡ []
+      → KeepsSimulate source script limits trace before after status history
+  memory-simulate source script limits trace status history nothing none = record {
+    loaded = after.files;
+    first = status;
+    ends = inr (memory-script source script status nothing, none);
+    unchanged = λ i. (unasked i).contents;
+    kept = seven-keeps trace history after.files status nothing.status_is;
+  }
+
+  memory-solve : (source : Source) (limits : Limits) (trace : Option (List ℕ)) (ending : EndingView) → PrintsNothing before.sink after.sink ending.status → IsIdle ending
+      → KeepsSolve source limits trace before after ending
+  memory-solve source limits trace ending nothing idle = record {
+    loaded = after.files;
+    first = ending.status;
+    ends = inr (memory-before source [] ending.status nothing, record { none = idle.none; same = idle.same });
+    unchanged = λ i. (unasked i).contents;
+    kept = seven-keeps trace ending.history after.files ending.status nothing.status_is;
+  }
+
   memory-local : (wanted : Result Order WordFault) (status : ℕ) (history : List Event) → PrintsNothing before.sink after.sink status → history ≡ [] → EndsLocal wanted before after status history
   memory-local (Err fault) status history nothing none = record { unasked = unasked; ends = inr nothing }
-  memory-local (Ok (Solve source limits)) status history nothing none = inr (memory-before source [] status nothing)
-  memory-local (Ok (Simulate source script limits)) status history nothing none = inr (memory-script source script status nothing, none)
+  memory-local (Ok (Solve source limits trace)) status history nothing none = inr (memory-before source [] status nothing)
+  memory-local (Ok (Simulate source script limits trace)) status history nothing none = memory-simulate source script limits trace status history nothing none
   memory-local (Ok (Validate source plan limits)) status history nothing none = memory-validate limits source plan status nothing
   memory-local (Ok (Ground domain problem scale)) status history nothing none = inr (memory-before (Pddl domain problem scale) [] status nothing)
   memory-local (Ok Help) status history nothing none = record { unasked = unasked; ends = inr nothing }
 
   memory-run : (wanted : Result Order WordFault) (ending : EndingView) → PrintsNothing before.sink after.sink ending.status → IsIdle ending → EndsRun wanted before after ending
   memory-run (Err fault) ending nothing idle = (record { unasked = unasked; ends = inr nothing }, idle)
-  memory-run (Ok (Solve source limits)) ending nothing idle = inr (memory-before source [] ending.status nothing, idle)
-  memory-run (Ok (Simulate source script limits)) ending nothing idle = (inr (memory-script source script ending.status nothing, idle.none), idle.same)
+  memory-run (Ok (Solve source limits trace)) ending nothing idle = memory-solve source limits trace ending nothing idle
+  memory-run (Ok (Simulate source script limits trace)) ending nothing idle = (memory-simulate source script limits trace ending.status ending.history nothing idle.none, idle.same)
   memory-run (Ok (Validate source plan limits)) ending nothing idle = (memory-validate limits source plan ending.status nothing, idle)
   memory-run (Ok (Ground domain problem scale)) ending nothing idle = (inr (memory-before (Pddl domain problem scale) [] ending.status nothing), idle)
   memory-run (Ok Help) ending nothing idle = (record { unasked = unasked; ends = inr nothing }, idle)

@@ -11,5 +11,6 @@ pub mod Solving
 pub mod Simulating
 pub mod Statuses
 pub mod Stopping
+pub mod Tracing
 pub mod Validating
 pub mod VerdictTexts

@@ -8,7 +8,7 @@ use Rattle.run_cli.specs.declared.options.Command.{Command}
 use Rattle.run_cli.specs.declared.options.Command.TheVariants.{Solve, Simulate, Validate, Ground, Help}
 use Rattle.run_cli.specs.declared.options.Numbers.{Numbers}
 use Rattle.run_cli.specs.declared.options.Setting.{Setting}
-use Rattle.run_cli.specs.declared.options.Setting.TheVariants.{Lead, Actions, Horizon, Nodes, Scale, Script, PlanFile}
+use Rattle.run_cli.specs.declared.options.Setting.TheVariants.{Lead, Actions, Horizon, Nodes, Scale, Script, PlanFile, TraceFile}
 
 -- all commands
 abbrev pub all_commands : List Command
@@ -31,8 +31,9 @@ file_bounds Help = (0, 0)
 
 -- the options of a command
 abbrev pub options_of : Command → List Setting
-options_of Solve = Lead ∷ Actions ∷ Horizon ∷ Nodes ∷ Scale ∷ []
-options_of Simulate = Script ∷ Lead ∷ Actions ∷ Horizon ∷ Nodes ∷ Scale ∷ []
+options_of Solve = Lead ∷ Actions ∷ Horizon ∷ Nodes ∷ Scale ∷ TraceFile ∷ []
+options_of Simulate =
+    Script ∷ Lead ∷ Actions ∷ Horizon ∷ Nodes ∷ Scale ∷ TraceFile ∷ []
 options_of Validate = PlanFile ∷ Actions ∷ Horizon ∷ Scale ∷ []
 options_of Ground = Scale ∷ []
 options_of Help = []
@@ -72,6 +73,7 @@ row_of Scale = record {
 }
 row_of Script = worded (codes "script")
 row_of PlanFile = worded (codes "plan")
+row_of TraceFile = worded (codes "trace")
 
 abbrev pub name_of : Setting → List ℕ
 name_of s = (row_of s).name

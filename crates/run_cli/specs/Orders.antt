@@ -1,11 +1,13 @@
 -- What a command line orders, or its first fault.
 use Rattle.std.specs.Prelude.{◌≡◌, ℕ, ◌+◌, Bool, true, false, if◌then◌else◌, List, [], ◌∷◌, ◌++◌, length, bytes_eq, codes, decimal, is_some, unwrap_or, Option, Some, None, Result, Ok, Err}
 use Rattle.std.specs.List.{list_any}
+use Rattle.std.specs.Option.{option_map}
 use Rattle.tp_spec.specs.declared.plan.Limits.{Limits}
 use Rattle.run_cli.specs.declared.options.Command.{Command}
 use Rattle.run_cli.specs.declared.options.Command.TheVariants as commands
 use Rattle.run_cli.specs.declared.options.Setting.{Setting}
-use Rattle.run_cli.specs.declared.options.Setting.TheVariants.{Lead, Actions, Horizon, Nodes, Scale, Script, PlanFile}
+use Rattle.run_cli.specs.declared.options.Setting.TheVariants.{Lead, Actions, Horizon, Nodes, Scale, Script, PlanFile, TraceFile}
+use Rattle.run_cli.specs.declared.words.Named.{Named}
 use Rattle.run_cli.specs.declared.words.Order.{Order}
 use Rattle.run_cli.specs.declared.words.Order.TheVariants.{Solve, Simulate, Validate, Ground, Help}
 use Rattle.run_cli.specs.declared.words.Source.{Source}
@@ -124,21 +126,54 @@ source_from count (Some name) None true scale = Err (ScaleOfGround count)
 source_from count (Some name) None false scale = Ok (GroundText name)
 source_from count (Some domain) (Some problem) scaled scale = Ok (Pddl domain problem scale)
 
--- The order of a command that has a source, with the script and the plan file that a command
--- needs, and with its limits.
-abbrev pub order_with : Command → ℕ → Option (List ℕ) → Option (List ℕ) → Limits → Source
+-- The files that options name, each where it is given: a script, a plan file, and the file in which
+-- a run is kept.
+pub record NamedFiles : Type 0 where
+  pub script : Option (List ℕ)
+  pub plan : Option (List ℕ)
+  pub trace : Option (List ℕ)
+
+-- such files as the code keeps them
+abbrev pub named_view : Named → NamedFiles
+named_view named = record {
+  script = option_map (λ t. t.now) named.script;
+  plan = option_map (λ t. t.now) named.plan;
+  trace = option_map (λ t. t.now) named.trace;
+}
+
+-- the files that options name
+abbrev pub named_of : List Argument → NamedFiles
+named_of arguments = record {
+  script = value_of arguments Script;
+  plan = value_of arguments PlanFile;
+  trace = value_of arguments TraceFile;
+}
+
+-- to play a script, which is needed
+abbrev pub simulation : ℕ → Option (List ℕ) → Source → Limits → Option (List ℕ)
     → Result Order WordFault
-order_with commands.Solve count script plan limits source = Ok (Solve source limits)
-order_with commands.Simulate count None plan limits source = Err (Missing count)
-order_with commands.Simulate count (Some script) plan limits source =
-    Ok (Simulate source script limits)
-order_with commands.Validate count script None limits source = Err (Missing count)
-order_with commands.Validate count script (Some plan) limits source =
-    Ok (Validate source plan limits)
-order_with commands.Ground count script plan limits (GroundText name) = Err (FileCount count)
-order_with commands.Ground count script plan limits (Pddl domain problem scale) =
-    Ok (Ground domain problem scale)
-order_with commands.Help count script plan limits source = Ok Help
+simulation count None source limits trace = Err (Missing count)
+simulation count (Some script) source limits trace = Ok (Simulate source script limits trace)
+
+-- to judge a plan file, which is needed
+abbrev pub validation : ℕ → Option (List ℕ) → Source → Limits → Result Order WordFault
+validation count None source limits = Err (Missing count)
+validation count (Some plan) source limits = Ok (Validate source plan limits)
+
+-- to ground a domain and a problem, which both are needed
+abbrev pub grounding : ℕ → Source → Result Order WordFault
+grounding count (GroundText name) = Err (FileCount count)
+grounding count (Pddl domain problem scale) = Ok (Ground domain problem scale)
+
+-- The order of a command that has a source, with the files that options name, and with its limits.
+abbrev pub order_with : Command → ℕ → NamedFiles → Limits → Source → Result Order WordFault
+order_with commands.Solve count named limits source = Ok (Solve source limits named.trace)
+order_with commands.Simulate count named limits source =
+    simulation count named.script source limits named.trace
+order_with commands.Validate count named limits source =
+    validation count named.plan source limits
+order_with commands.Ground count named limits source = grounding count source
+order_with commands.Help count named limits source = Ok Help
 
 -- an order with the source that was named, or what is wrong with it
 abbrev pub with_source : (Source → Result Order WordFault) → Result Source WordFault
@@ -151,12 +186,11 @@ abbrev pub is_help : Command → Bool
 is_help commands.Help = true
 is_help _ = false
 
--- the order of a command with its files, its script, its plan file and its scale
+-- the order of a command with its files, those that options name, and its scale
 abbrev pub order_from : Command → ℕ → List Argument → Result Order WordFault
 order_from command count arguments =
     if is_help command then Ok Help
-    else with_source (order_with command count (value_of arguments Script)
-    (value_of arguments PlanFile) (limits_of arguments))
+    else with_source (order_with command count (named_of arguments) (limits_of arguments))
     (source_from count (first_name (files_of arguments)) (second_name (files_of arguments))
     (is_given arguments Scale) (number_of arguments Scale))
 
@@ -198,8 +232,8 @@ is_memory _ = false
 
 -- whether the words order `solve`
 abbrev pub is_solve : Result Order WordFault → Bool
-is_solve (Ok (Solve source limits)) = true
-is_solve (Ok (Simulate source script limits)) = false
+is_solve (Ok (Solve source limits trace)) = true
+is_solve (Ok (Simulate source script limits trace)) = false
 is_solve (Ok (Validate source plan limits)) = false
 is_solve (Ok (Ground domain problem scale)) = false
 is_solve (Ok Help) = false
@@ -207,12 +241,21 @@ is_solve (Err fault) = false
 
 -- whether the words order `simulate`
 abbrev pub is_simulate : Result Order WordFault → Bool
-is_simulate (Ok (Solve source limits)) = false
-is_simulate (Ok (Simulate source script limits)) = true
+is_simulate (Ok (Solve source limits trace)) = false
+is_simulate (Ok (Simulate source script limits trace)) = true
 is_simulate (Ok (Validate source plan limits)) = false
 is_simulate (Ok (Ground domain problem scale)) = false
 is_simulate (Ok Help) = false
 is_simulate (Err fault) = false
+
+-- the file in which a run is kept, where the words name one
+abbrev pub trace_of : Result Order WordFault → Option (List ℕ)
+trace_of (Ok (Solve source limits trace)) = trace
+trace_of (Ok (Simulate source script limits trace)) = trace
+trace_of (Ok (Validate source plan limits)) = None
+trace_of (Ok (Ground domain problem scale)) = None
+trace_of (Ok Help) = None
+trace_of (Err fault) = None
 
 -- the first of some faults
 abbrev pub first_of : List WordFault → Option WordFault

@@ -10,10 +10,10 @@ use Rattle.run_cli.specs.Help.{help_text}
 use Rattle.run_cli.specs.Orders.{fault_text}
 use Rattle.run_cli.specs.Printing.{Prints, PrintsNothing}
 use Rattle.run_cli.specs.Runs.{EndingView, IsIdle}
-use Rattle.run_cli.specs.Simulating.{EndsSimulate}
-use Rattle.run_cli.specs.Solving.{EndsSolve, EndsUnsolved, EndsBefore, IsOutOfMemory}
+use Rattle.run_cli.specs.Solving.{EndsUnsolved, EndsBefore, IsOutOfMemory}
 use Rattle.run_cli.specs.Sources.{HoldsProblem, source_files}
 use Rattle.run_cli.specs.Stopping.{file_of}
+use Rattle.run_cli.specs.Tracing.{KeepsSolve, KeepsSimulate}
 use Rattle.run_cli.specs.Validating.{IsAnswer}
 use Rattle.run_cli.specs.declared.words.Order.{Order}
 use Rattle.run_cli.specs.declared.words.Order.TheVariants.{Solve, Simulate, Validate, Ground, Help}
@@ -66,10 +66,10 @@ EndsGround source before after status =
 -- `simulate` has a history.
 abbrev pub EndsLocal : Result Order WordFault → Outside → Outside → ℕ → List Event → Type 0
 EndsLocal (Err fault) before after status history = EndsRefused fault before after status
-EndsLocal (Ok (Solve source limits)) before after status history =
+EndsLocal (Ok (Solve source limits trace)) before after status history =
     EndsUnsolved source before after status
-EndsLocal (Ok (Simulate source script limits)) before after status history =
-    EndsSimulate source script limits before after status history
+EndsLocal (Ok (Simulate source script limits trace)) before after status history =
+    KeepsSimulate source script limits trace before after status history
 EndsLocal (Ok (Validate source plan limits)) before after status history =
     EndsValidate limits source plan before after status
 EndsLocal (Ok (Ground domain problem scale)) before after status history =
@@ -81,10 +81,10 @@ EndsLocal (Ok Help) before after status history = EndsHelp before after status
 abbrev pub EndsRun : Result Order WordFault → Outside → Outside → EndingView → Type 0
 EndsRun (Err fault) before after ending =
     EndsRefused fault before after ending.status × IsIdle ending
-EndsRun (Ok (Solve source limits)) before after ending =
-    EndsSolve source limits before after ending
-EndsRun (Ok (Simulate source script limits)) before after ending =
-    EndsSimulate source script limits before after ending.status ending.history
+EndsRun (Ok (Solve source limits trace)) before after ending =
+    KeepsSolve source limits trace before after ending
+EndsRun (Ok (Simulate source script limits trace)) before after ending =
+    KeepsSimulate source script limits trace before after ending.status ending.history
     × (ending.ended ≡ ending.began)
 EndsRun (Ok (Validate source plan limits)) before after ending =
     EndsValidate limits source plan before after ending.status × IsIdle ending

@@ -1,15 +1,16 @@
 ghost use Rattle.std.specs.Prelude.{◌≡◌, ◌<◌, ◌^◌, ◌⊎◌, [], map, length, true, false, string_bytes};
-ghost use Rattle.run_cli.specs.Orders.{order_of, fault_text, is_solve, is_simulate, is_memory as is_memory_of};
+ghost use Rattle.run_cli.specs.Orders.{order_of, fault_text, is_solve, is_simulate, trace_of, is_memory as is_memory_of};
 ghost use Rattle.run_cli.specs.Help.{help_text};
 ghost use Rattle.run_cli.specs.Printing.{Prints, PrintsNothing};
 ghost use Rattle.run_cli.specs.Statuses.{EndsLocal, EndsRun};
+ghost use Rattle.run_cli.specs.Tracing.{KeepsAllBut};
 
 use crate::answer::Answer;
 use crate::ending::{Ending, say, unsearched};
 use crate::grounding::ground_files;
 use crate::help::help_text;
-use crate::simulating::simulate_files;
-use crate::solving::{leave_file, solve_file};
+use crate::solving::leave_file;
+use crate::tracing::{simulate_kept, solve_kept};
 use crate::validating::judge_files;
 use crate::words::{Order, Source, WordFault, fault_line, read_words};
 use std::alloc::Global;
@@ -56,22 +57,37 @@ pub fn run<F: Files, O: Sink + Send, C: Clock + Send, G: Gate>(
         begun = C.begun result.clock;
       };
     }) }
-    ensures contents { (F.view files.new).contents ≡ (F.view files.old).contents }
+    ensures contents { KeepsAllBut (trace_of (order_of (map string_bytes words.now)))
+        (F.view files.old).contents (F.view files.new).contents }
     ensures same { 2 < result.status → result.status < 6 → result.clock ≡ clock }
     ensures unsolved { is_solve (order_of (map string_bytes words.now)) ≡ false
         → result.clock ≡ clock }
 {
     match read_words(alloc, words) {
-        Ok(Order::Solve { source, limits }) => {
-            solve_file(alloc, &source, limits, files, out, clock)
-        }
+        Ok(
+            Order::Solve {
+                source,
+                limits,
+                trace,
+            },
+        ) => solve_kept(alloc, &source, limits, &trace, files, out, clock),
         Ok(
             Order::Simulate {
                 source,
                 script,
                 limits,
+                trace,
             },
-        ) => simulate_files(alloc, &source, script.as_str(), limits, files, out, clock),
+        ) => simulate_kept(
+            alloc,
+            &source,
+            script.as_str(),
+            limits,
+            &trace,
+            files,
+            out,
+            clock,
+        ),
         Ok(
             Order::Validate {
                 source,
@@ -114,7 +130,10 @@ pub fn run_local<F: Files, O: Sink, C: Clock>(
       sink = O.view out.old;
     }) (record { files = F.view files.new; sink = O.view out.new }) result.status
         result.history.items }
-    ensures contents { (F.view files.new).contents ≡ (F.view files.old).contents }
+    ensures contents { KeepsAllBut (trace_of (order_of (map string_bytes words.now)))
+        (F.view files.old).contents (F.view files.new).contents }
+    ensures unchanged { is_simulate (order_of (map string_bytes words.now)) ≡ false
+        → (F.view files.new).contents ≡ (F.view files.old).contents }
     ensures history { is_simulate (order_of (map string_bytes words.now)) ≡ false
         → result.history.items ≡ [] }
     ensures clock { result.clock ≡ clock }
@@ -126,8 +145,18 @@ pub fn run_local<F: Files, O: Sink, C: Clock>(
                 source,
                 script,
                 limits,
+                trace,
             },
-        ) => simulate_files(alloc, &source, script.as_str(), limits, files, out, clock),
+        ) => simulate_kept(
+            alloc,
+            &source,
+            script.as_str(),
+            limits,
+            &trace,
+            files,
+            out,
+            clock,
+        ),
         Ok(
             Order::Validate {
                 source,

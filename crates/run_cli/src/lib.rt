@@ -14,6 +14,7 @@ mod printing;
 mod reader;
 mod simulating;
 mod solving;
+mod tracing;
 mod validating;
 mod verdicts;
 mod words;

@@ -35,6 +35,8 @@ pub enum Setting {
     Script,
     /// The plan file that is to be judged.
     PlanFile,
+    /// The file in which the decisions of a run are kept.
+    TraceFile,
 }
 
 /// The numbers that an option takes: from `least` to `most`, only those of a scale (1, 10, 100 and
@@ -124,6 +126,7 @@ pub fn options_of(command: Command) -> &'static [Setting]
             Setting::Horizon,
             Setting::Nodes,
             Setting::Scale,
+            Setting::TraceFile,
         ],
         Command::Simulate => &[
             Setting::Script,
@@ -132,6 +135,7 @@ pub fn options_of(command: Command) -> &'static [Setting]
             Setting::Horizon,
             Setting::Nodes,
             Setting::Scale,
+            Setting::TraceFile,
         ],
         Command::Validate => &[
             Setting::PlanFile,
@@ -194,6 +198,7 @@ fn row_of(setting: Setting) -> Row
         },
         Setting::Script => worded(b"script"),
         Setting::PlanFile => worded(b"plan"),
+        Setting::TraceFile => worded(b"trace"),
     }
 }
 

@@ -1,9 +1,11 @@
-ghost use Rattle.std.specs.Prelude.{◌≡◌, ◌≤◌, ◌<◌, ◌^◌, ◌++◌, ◌∷◌, [], map, length, IfOk, MatchOption, string_bytes};
+ghost use Rattle.std.specs.Prelude.{◌≡◌, ◌≤◌, ◌<◌, ◌^◌, ◌++◌, ◌∷◌, [], map, length, Ok, IfOk, IfErr, MatchOption, string_bytes};
 ghost use Rattle.std.specs.Option.{option_map};
 ghost use Rattle.run_cli.specs.Options.{numbers_of};
 ghost use Rattle.run_cli.specs.Arguments.{view_of};
 ghost use Rattle.run_cli.specs.declared.words.WordFault.TheVariants.{NoValue as no_value};
-ghost use Rattle.run_cli.specs.Orders.{gives, is_given, twice_faults, range_faults, argument_faults, faults_from, files_of, first_name, second_name, value_of, number_or, number_of, most_of, limits_of, source_from, order_with, is_help, order_from, whole_order, ordered, order_of, Answers, first_of, named_fault, fault_text};
+ghost use Rattle.run_cli.specs.declared.words.WordFault.TheVariants.{NoMemory as no_memory};
+ghost use Rattle.run_cli.specs.declared.words.Order.TheVariants.{Solve as search_of};
+ghost use Rattle.run_cli.specs.Orders.{gives, is_given, twice_faults, range_faults, argument_faults, faults_from, files_of, first_name, second_name, value_of, number_or, number_of, most_of, limits_of, source_from, named_view, named_of, simulation, validation, grounding, order_with, is_help, order_from, whole_order, ordered, order_of, Answers, first_of, named_fault, fault_text};
 
 use crate::arguments::{Argument, arguments_of};
 use crate::options::{
@@ -33,16 +35,18 @@ pub enum Source {
 /// each that is not given.
 #[derive(Drop)]
 pub enum Order {
-    /// To search for a plan of a problem.
+    /// To search for a plan of a problem, and to keep the run in a file where one is named.
     Solve {
         source: Source,
         limits: Limits,
+        trace: Option<Name>,
     },
-    /// To run the steps of a script on a problem.
+    /// To run the steps of a script on a problem, and to keep the run in a file where one is named.
     Simulate {
         source: Source,
         script: Name,
         limits: Limits,
+        trace: Option<Name>,
     },
     /// To judge the plan of a plan file for a problem.
     Validate {
@@ -105,6 +109,14 @@ impl From<NoMemory> for WordFault {
     fn from(_fault: NoMemory) -> WordFault {
         WordFault::NoMemory
     }
+}
+
+/// The files that options name, each where it is given.
+#[derive(Clone, Copy)]
+struct Named<'a> {
+    script: Option<&'a str>,
+    plan: Option<&'a str>,
+    trace: Option<&'a str>,
 }
 
 /// Whether an argument gives an option.
@@ -338,51 +350,128 @@ fn source_from(
     }
 }
 
-/// The order of a command that has a source, with the script and the plan file that a command
-/// needs.
+/// A name, where there is one.
+fn name_where(alloc: Global, text: Option<&str>) -> Result<Option<Name>, WordFault>
+    ensures named { IfOk result (λ name. name ≡ option_map (λ t. t.now) text.entry) }
+    ensures memory { IfErr result (λ fault. fault ≡ no_memory) }
+{
+    match text {
+        Some(text) => Ok(Some(Name::of(alloc, text)?)),
+        None => Ok(None),
+    }
+}
+
+/// To search for a plan of a source's problem.
+fn search_for(
+    alloc: Global,
+    source: Source,
+    limits: Limits,
+    trace: Option<&str>,
+) -> Result<Order, WordFault>
+    ensures { Answers result (Ok (search_of source limits (option_map (λ t. t.now) trace.entry))) }
+{
+    let trace = name_where(alloc, trace)?;
+    Ok(Order::Solve {
+        source,
+        limits,
+        trace,
+    })
+}
+
+/// To play a script, which is needed.
+fn simulation(
+    alloc: Global,
+    count: u32,
+    script: Option<&str>,
+    source: Source,
+    limits: Limits,
+    trace: Option<&str>,
+) -> Result<Order, WordFault>
+    ensures { Answers result (simulation count (option_map (λ t. t.now) script.entry) source
+        limits (option_map (λ t. t.now) trace.entry)) }
+{
+    match script {
+        Some(script) => {
+            let script = Name::of(alloc, script)?;
+            let trace = name_where(alloc, trace)?;
+            Ok(Order::Simulate {
+                source,
+                script,
+                limits,
+                trace,
+            })
+        }
+        None => Err(WordFault::Missing { at: count }),
+    }
+}
+
+/// To judge a plan file, which is needed.
+fn validation(
+    alloc: Global,
+    count: u32,
+    plan: Option<&str>,
+    source: Source,
+    limits: Limits,
+) -> Result<Order, WordFault>
+    ensures { Answers result (validation count (option_map (λ t. t.now) plan.entry) source
+        limits) }
+{
+    match plan {
+        Some(plan) => Ok(Order::Validate {
+            source,
+            plan: Name::of(alloc, plan)?,
+            limits,
+        }),
+        None => Err(WordFault::Missing { at: count }),
+    }
+}
+
+/// To ground a domain and a problem, which both are needed.
+fn grounding(count: u32, source: Source) -> Result<Order, WordFault>
+    ensures { Answers result (grounding count source) }
+{
+    match source {
+        Source::Pddl {
+            domain,
+            problem,
+            scale,
+        } => Ok(Order::Ground {
+            domain,
+            problem,
+            scale,
+        }),
+        Source::GroundText { .. } => Err(WordFault::FileCount { at: count }),
+    }
+}
+
+/// The order of a command that has a source, with the files that options name.
 fn order_with(
     alloc: Global,
     command: Command,
     count: u32,
-    script: Option<&str>,
-    plan: Option<&str>,
+    named: Named<'_>,
     limits: Limits,
     source: Source,
 ) -> Result<Order, WordFault>
-    ensures { Answers result (order_with command count (option_map (λ t. t.now) script.entry)
-        (option_map (λ t. t.now) plan.entry) limits source) }
+    ensures { Answers result (order_with command count (named_view named.entry) limits source) }
 {
     match command {
-        Command::Solve => Ok(Order::Solve { source, limits }),
-        Command::Simulate => match script {
-            Some(script) => Ok(Order::Simulate {
-                source,
-                script: Name::of(alloc, script)?,
-                limits,
-            }),
-            None => Err(WordFault::Missing { at: count }),
-        },
-        Command::Validate => match plan {
-            Some(plan) => Ok(Order::Validate {
-                source,
-                plan: Name::of(alloc, plan)?,
-                limits,
-            }),
-            None => Err(WordFault::Missing { at: count }),
-        },
-        Command::Ground => match source {
-            Source::Pddl {
-                domain,
-                problem,
-                scale,
-            } => Ok(Order::Ground {
-                domain,
-                problem,
-                scale,
-            }),
-            Source::GroundText { .. } => Err(WordFault::FileCount { at: count }),
-        },
+        Command::Solve => search_for(alloc, source, limits, named.trace),
+        Command::Simulate => { simulation(alloc, count, named.script, source, limits, named.trace) }
+        Command::Validate => validation(alloc, count, named.plan, source, limits),
+        Command::Ground => grounding(count, source),
         Command::Help => Ok(Order::Help),
+    }
+}
+
+/// The files that options name.
+fn named_of<'a>(arguments: &[Argument<'a>]) -> Named<'a>
+    ensures { named_view result ≡ named_of (map view_of arguments.now) }
+{
+    Named {
+        script: value_of(arguments, Setting::Script),
+        plan: value_of(arguments, Setting::PlanFile),
+        trace: value_of(arguments, Setting::TraceFile),
     }
 }
 
@@ -393,7 +482,7 @@ fn is_help(command: Command) -> bool
     matches!(command, Command::Help)
 }
 
-/// The order of a command with its files, its script, its plan file and its scale.
+/// The order of a command with its files, those that options name, and its scale.
 #[tactic(auto, using(crate::proofs::Sourced::with_fault, crate::proofs::Sourced::with_order))]
 fn order_from(
     alloc: Global,
@@ -419,8 +508,7 @@ fn order_from(
             alloc,
             command,
             count,
-            value_of(arguments, Setting::Script),
-            value_of(arguments, Setting::PlanFile),
+            named_of(arguments),
             limits_of(arguments),
             source,
         ),
@@ -461,10 +549,13 @@ fn judge(
 
 /// Reads the words of a command line behind the program's name: the command, then files and options
 /// in any order. An option stands as `--name`, with the next word for its value, whatever that is,
-/// or as `--name=value`. A number is 1 to 13 digits. `solve` takes one file and `--actions` (1 to
-/// 64), `--horizon` (1 to 2^40) and `--nodes` (1 to 200,000); `validate` takes one file, `--plan`,
-/// which it needs, `--actions` and `--horizon`; `help` takes no file and no option. The answer is
-/// exactly what the words say, or their first fault, or want of memory.
+/// or as `--name=value`. A number is 1 to 13 digits. A problem is one file, or a domain and a
+/// problem; those take `--scale` (1, 10, 100 or 1000). `solve` takes a problem and `--lead` (0 to
+/// 1000), `--actions` (1 to 64), `--horizon` (1 to 2^40), `--nodes` (1 to 200,000) and `--trace`, a
+/// file; `simulate` takes these and `--script`, which it needs; `validate` takes a problem,
+/// `--plan`, which it needs, `--actions` and `--horizon`; `ground` takes two files; `help` takes no
+/// file and no option. The answer is exactly what the words say, or their first fault, or want of
+/// memory.
 pub fn read_words(alloc: Global, words: &[String]) -> Result<Order, WordFault>
     requires { length words.now < 2 ^ 31 }
     ensures { Answers result (order_of (map string_bytes words.now)) }

@@ -9,19 +9,19 @@ use Rattle.tp_world.specs.Views.{Outside, ClockView}
 use Rattle.run_cli.proofs.Ranges.{solve-range, simulate-range, validate-range, ground-range}
 use Rattle.run_cli.proofs.command.run.Goals as goal
 
-pub solve_file-requires-clause-limits : goal.solve_file-requires-clause-limits
-solve_file-requires-clause-limits g c = (solve-range (map string_bytes c.args.words.now) c.in-Ok-Solve.source c.in-Ok-Solve.limits (c.in-Ok-Solve.ensures ∙ ap Ok c.in-Ok-Solve.field-0-is)).0
+pub solve_kept-requires-clause-limits : goal.solve_kept-requires-clause-limits
+solve_kept-requires-clause-limits g c = (solve-range (map string_bytes c.args.words.now) c.in-Ok-Solve.source c.in-Ok-Solve.limits c.in-Ok-Solve.trace (c.in-Ok-Solve.ensures ∙ ap Ok c.in-Ok-Solve.field-0-is)).0
 
-pub solve_file-requires-clause-scaled : goal.solve_file-requires-clause-scaled
-solve_file-requires-clause-scaled g c = (solve-range (map string_bytes c.args.words.now) c.in-Ok-Solve.source c.in-Ok-Solve.limits (c.in-Ok-Solve.ensures ∙ ap Ok c.in-Ok-Solve.field-0-is)).1
+pub solve_kept-requires-clause-scaled : goal.solve_kept-requires-clause-scaled
+solve_kept-requires-clause-scaled g c = (solve-range (map string_bytes c.args.words.now) c.in-Ok-Solve.source c.in-Ok-Solve.limits c.in-Ok-Solve.trace (c.in-Ok-Solve.ensures ∙ ap Ok c.in-Ok-Solve.field-0-is)).1
 
-pub simulate_files-requires-clause-limits : goal.simulate_files-requires-clause-limits
-simulate_files-requires-clause-limits g c =
-    (simulate-range (map string_bytes c.args.words.now) c.in-Ok-Simulate.source c.in-Ok-Simulate.script c.in-Ok-Simulate.limits (c.in-Ok-Simulate.ensures ∙ ap Ok c.in-Ok-Simulate.field-0-is)).0
+pub simulate_kept-requires-clause-limits : goal.simulate_kept-requires-clause-limits
+simulate_kept-requires-clause-limits g c =
+    (simulate-range (map string_bytes c.args.words.now) c.in-Ok-Simulate.source c.in-Ok-Simulate.script c.in-Ok-Simulate.limits c.in-Ok-Simulate.trace (c.in-Ok-Simulate.ensures ∙ ap Ok c.in-Ok-Simulate.field-0-is)).0
 
-pub simulate_files-requires-clause-scaled : goal.simulate_files-requires-clause-scaled
-simulate_files-requires-clause-scaled g c =
-    (simulate-range (map string_bytes c.args.words.now) c.in-Ok-Simulate.source c.in-Ok-Simulate.script c.in-Ok-Simulate.limits (c.in-Ok-Simulate.ensures ∙ ap Ok c.in-Ok-Simulate.field-0-is)).1
+pub simulate_kept-requires-clause-scaled : goal.simulate_kept-requires-clause-scaled
+simulate_kept-requires-clause-scaled g c =
+    (simulate-range (map string_bytes c.args.words.now) c.in-Ok-Simulate.source c.in-Ok-Simulate.script c.in-Ok-Simulate.limits c.in-Ok-Simulate.trace (c.in-Ok-Simulate.ensures ∙ ap Ok c.in-Ok-Simulate.field-0-is)).1
 
 pub judge_files-requires : goal.judge_files-requires
 judge_files-requires g c =

@@ -6,15 +6,15 @@ use Rattle.run_cli.proofs.Ranges.{solve-range, simulate-range, validate-range, g
 use Rattle.run_cli.proofs.command.run_local.Goals as goal
 
 pub leave_file-requires : goal.leave_file-requires
-leave_file-requires g c = (solve-range (map string_bytes c.args.words.now) c.in-Ok-Solve.source _ (c.in-Ok-Solve.ensures ∙ ap Ok c.in-Ok-Solve.field-0-is)).1
+leave_file-requires g c = (solve-range (map string_bytes c.args.words.now) c.in-Ok-Solve.source _ _ (c.in-Ok-Solve.ensures ∙ ap Ok c.in-Ok-Solve.field-0-is)).1
 
-pub simulate_files-requires-clause-limits : goal.simulate_files-requires-clause-limits
-simulate_files-requires-clause-limits g c =
-    (simulate-range (map string_bytes c.args.words.now) c.in-Ok-Simulate.source c.in-Ok-Simulate.script c.in-Ok-Simulate.limits (c.in-Ok-Simulate.ensures ∙ ap Ok c.in-Ok-Simulate.field-0-is)).0
+pub simulate_kept-requires-clause-limits : goal.simulate_kept-requires-clause-limits
+simulate_kept-requires-clause-limits g c =
+    (simulate-range (map string_bytes c.args.words.now) c.in-Ok-Simulate.source c.in-Ok-Simulate.script c.in-Ok-Simulate.limits c.in-Ok-Simulate.trace (c.in-Ok-Simulate.ensures ∙ ap Ok c.in-Ok-Simulate.field-0-is)).0
 
-pub simulate_files-requires-clause-scaled : goal.simulate_files-requires-clause-scaled
-simulate_files-requires-clause-scaled g c =
-    (simulate-range (map string_bytes c.args.words.now) c.in-Ok-Simulate.source c.in-Ok-Simulate.script c.in-Ok-Simulate.limits (c.in-Ok-Simulate.ensures ∙ ap Ok c.in-Ok-Simulate.field-0-is)).1
+pub simulate_kept-requires-clause-scaled : goal.simulate_kept-requires-clause-scaled
+simulate_kept-requires-clause-scaled g c =
+    (simulate-range (map string_bytes c.args.words.now) c.in-Ok-Simulate.source c.in-Ok-Simulate.script c.in-Ok-Simulate.limits c.in-Ok-Simulate.trace (c.in-Ok-Simulate.ensures ∙ ap Ok c.in-Ok-Simulate.field-0-is)).1
 
 pub judge_files-requires : goal.judge_files-requires
 judge_files-requires g c =
@@ -24,8 +24,8 @@ pub ground_files-requires : goal.ground_files-requires
 ground_files-requires g c =
     ground-range (map string_bytes c.args.words.now) c.in-Ok-Ground.domain c.in-Ok-Ground.problem c.in-Ok-Ground.scale (c.in-Ok-Ground.ensures ∙ ap Ok c.in-Ok-Ground.field-0-is)
 
-pub returns-in-Err-clause-ends : goal.returns-in-Err-clause-ends
-returns-in-Err-clause-ends g c =
+pub returns-clause-ends : goal.returns-clause-ends
+returns-clause-ends g c =
     let before : Outside = record { files = g.F.Files.view c.args.files.now; sink = g.O.Sink.view c.args.out.now } in
     let after : Outside = record { files = g.F.Files.view c.args.files.now; sink = g.O.Sink.view c.refuse_words.new.out } in
     fault-local c.in-Err.fault (order_of (map string_bytes c.args.words.now)) c.in-Err.ensures before after refl c.refuse_words.result.status c.refuse_words.result.history.items
