@@ -31,8 +31,8 @@ pub struct Played {
 
 /// Plays the lines of a script in order, each as one turn of its actor with its reading of the
 /// clock, in ticks: a take line takes a node, a merge line merges what its actor's take took, or
-/// looks where it took nothing, and a look line makes a turn without a deed. Each of the actors 1 to
-/// 8 may hold a job while others take and merge. Behind each turn the
+/// looks where it took nothing, and a look line makes a turn without a deed. Each of the actors 1
+/// to 8 may hold a job while others take and merge. Behind each turn the
 /// commands of what it committed are sent. No line is played behind an outcome; where none stands
 /// behind the last line the run is halted. `NoMemory` where memory was refused before the first
 /// line: nothing was played and nothing was put.

@@ -8,8 +8,8 @@ pub fn replayed_runs()
     ensures due { DueRun }
 {}
 
-/// The first broken rule where an event comes out of turn, after an outcome, or is of a node that it
-/// cannot be of.
+/// The first broken rule where an event comes out of turn, after an outcome, or is of a node that
+/// it cannot be of.
 pub fn events_out_of_place()
     ensures after_outcome { AfterOutcome }
     ensures out_of_turn { OutOfTurn }
@@ -24,8 +24,8 @@ pub fn wrong_takes()
     ensures too_late { TooLate }
 {}
 
-/// The first broken rule where a node is merged by other marks, an act is committed that is not due,
-/// another plan is published, or the search stops although there are ids enough.
+/// The first broken rule where a node is merged by other marks, an act is committed that is not
+/// due, another plan is published, or the search stops although there are ids enough.
 pub fn wrong_deeds()
     ensures missing_mark { MissingMark }
     ensures nothing_due { NothingDue }

@@ -1,8 +1,8 @@
 ghost use Rattle.situated_machine.specs.Laws.{RunsAreFounded, FoundedAreRuns, OneAnswer, RunsReplayWhole, RunsAreNotBroken, KeptLeadToOrder, OneSetOfMarks, OneDueAct, OnePlan};
 ghost use Rattle.tp_laws.specs.Plans.{OfFormed};
 
-/// A history is a run exactly where none of its events breaks a rule, and each Drop and each Exhaust
-/// stands where no plan that it gives up is possible.
+/// A history is a run exactly where none of its events breaks a rule, and each Drop and each
+/// Exhaust stands where no plan that it gives up is possible.
 pub fn rules_and_runs()
     ensures kept { OfFormed RunsAreFounded }
     ensures whole { OfFormed FoundedAreRuns }

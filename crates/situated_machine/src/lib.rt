@@ -1,6 +1,6 @@
 //! What a replay of a history judges: the rules of the situated machine that can be judged event by
-//! event, which answer a history has, and how answers and runs hang together. A function here has no
-//! body: its contract is the law.
+//! event, which answer a history has, and how answers and runs hang together. A function here has
+//! no body: its contract is the law.
 #![tactic(auto)]
 
 mod examples;

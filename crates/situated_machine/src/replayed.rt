@@ -13,15 +13,15 @@ pub enum Rule {
     Least,
     /// A Take's node has a live word.
     Live,
-    /// No possible plan spells the word of an Expand or a Limit, and an Expand has exactly the marks
-    /// that make it a live word.
+    /// No possible plan spells the word of an Expand or a Limit, and an Expand has exactly the
+    /// marks that make it a live word.
     Marks,
     /// A Dispatch is of the act that is due.
     Commit,
     /// A Publish is of the plan of its word's least schedule, which is possible.
     Plan,
-    /// An Expand gives no more ids than there may be; a Limit tells how many were given and how many
-    /// marks there are, which are too many together.
+    /// An Expand gives no more ids than there may be; a Limit tells how many were given and how
+    /// many marks there are, which are too many together.
     Number,
     /// A Tick, a deed or a Halt finds the machine settled, an Exhaust an empty frontier.
     Early,
