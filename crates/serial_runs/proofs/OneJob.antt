@@ -28,12 +28,11 @@ use Rattle.open_tree.specs.Charter.{SameCharter}
 use Rattle.open_tree.specs.Views.{JobView, TreeView}
 use Rattle.tp_laws.proofs.Members.{in-filter}
 use Rattle.run_laws.proofs.Runs.{legal-parts, taken-id}
-use Rattle.serial_runs.specs.OneWorker.{IsBounded, IsSearching, IsHolding, IsGoing, GoesOn, TakesOn, HasJob, HasSearched, left_of, left_beside}
+use Rattle.serial_runs.specs.OneWorker.{IsBounded, IsSearching, IsHolding, IsGoing, GoesOn, TakesOn, HasJob, HasSearched, IsWorked, left_of, left_beside}
 use Rattle.tp_world.specs.declared.sink.SendFault.{SendFault}
 use Rattle.tp_world.specs.declared.sink.SendFault.TheVariants.{Failed, NoMemory}
 use Rattle.serial_runs.specs.Playing.{is_inside}
 use Rattle.serial_runs.specs.Stopping.{HaltsBy, cause_by}
-use Rattle.tp_spec.specs.Following.{IsBusy}
 use Rattle.word_network.specs.Conditions.{AreCommits, AreLimits}
 use Rattle.serial_runs.specs.Endings.{HasResult, IsHaltedBy, Ends, is_result}
 use Rattle.search_workers.specs.Sprouting.{CanSprout}
@@ -42,7 +41,7 @@ use Rattle.serial_runs.proofs.Puts.{Turned, HasTurn, turned}
 use Rattle.serial_runs.proofs.OneWorker.{expanded, stale, busy-over, merge-over, IsLess, less-before, less-after, rest-inside, settled, rest, same}
 
 pub searching-first : (p : Problem) (l : Limits) → IsBounded p l → IsWholeRun p l [] → IsSearching p l []
-searching-first p l bounded whole = record { bounded = bounded; rested = record { busy = record { busy = refl }; free = refl; all_open = refl }; whole = whole; standing = refl }
+searching-first p l bounded whole = record { bounded = bounded; rested = record { busy = record { busy = record { busy = refl }; own = refl }; free = refl; all_open = refl }; whole = whole; standing = refl }
 
 in-any : {A : Type 0} (test : A → Bool) (x : A) (xs : List A) → IsIn x xs → test x ≡ true → list_any test xs ≡ true
 in-any test x [] h e = absurd h
@@ -253,7 +252,7 @@ halted l h new e = record {
 
 -- the run ends with a result, and was busy
 abbrev pub IsFound : Limits → List Event → Type 0
-IsFound l h = HasResult h × IsBusy l 1 h
+IsFound l h = HasResult h × IsWorked l h
 
 pub found-searched : (l : Limits) (h : List Event) (answer : Result Unit SendFault) → IsFound l h → has_outcome h ≡ true → HasSearched l h answer
 found-searched l h (Ok done) f o = record { outcome = o; ends = inl f.0; busy = λ r. f.1 }

@@ -9,12 +9,12 @@ use Rattle.tp_spec.specs.declared.event.Event.TheVariants.{Tick, Drop, Dispatch,
 use Rattle.tp_spec.specs.declared.plan.Limits.{Limits}
 use Rattle.tp_spec.specs.declared.plan.Mark.{Mark}
 use Rattle.tp_spec.specs.Machine.{Machine, Node, first, step, end_of, state_of, is_open, taken_by, without, children}
-use Rattle.tp_spec.specs.Following.{IsBusy, are_busy, is_busy_turn, turn_events, last_take, took_after, serves_take, serves_merge, is_deed_on, is_take}
+use Rattle.tp_spec.specs.Following.{are_busy, is_busy_turn, turn_events, last_take, took_after, serves_take, serves_merge, is_deed_on, is_take}
 use Rattle.run_laws.proofs.Runs.{end-append}
 use Rattle.machine_run.specs.Turns.{IsTurn, event_list, is_settling, is_outcome, has_outcome}
 use Rattle.machine_run.proofs.Outcomes.{over-of}
 use Rattle.serial_runs.specs.Playing.{is_inside}
-use Rattle.serial_runs.specs.OneWorker.{IsRested, HasTaken, is_open_or}
+use Rattle.serial_runs.specs.OneWorker.{IsRested, HasTaken, IsWorked, is_open_or, is_turn_of}
 
 -- a Tick ends the turn before it
 turn-ends : (es fs : List Event) (actor r : ℕ) → turn_events (es ++ Tick actor r ∷ fs) ≡ turn_events es
@@ -109,6 +109,18 @@ turn-inside (Publish a id plan ∷ es) h = ap (λ x. Publish a id plan ∷ x) (t
 turn-inside (Limit a id made marks ∷ es) h = ap (λ x. Limit a id made marks ∷ x) (turn-inside es h)
 turn-inside (Exhaust ∷ es) h = ap (λ x. Exhaust ∷ x) (turn-inside es h)
 turn-inside (Halt cause ∷ es) h = absurd (false≢true h)
+
+own-inside : (actor : ℕ) (es : List Event) → list_all is_inside es ≡ true → list_all (is_turn_of actor) es ≡ true
+own-inside actor [] h = refl
+own-inside actor (Tick a r ∷ es) h = absurd (false≢true h)
+own-inside actor (Drop id ∷ es) h = own-inside actor es h
+own-inside actor (Dispatch act ∷ es) h = own-inside actor es h
+own-inside actor (Take a id ∷ es) h = own-inside actor es h
+own-inside actor (Expand a id marks ∷ es) h = own-inside actor es h
+own-inside actor (Publish a id plan ∷ es) h = own-inside actor es h
+own-inside actor (Limit a id made marks ∷ es) h = own-inside actor es h
+own-inside actor (Exhaust ∷ es) h = own-inside actor es h
+own-inside actor (Halt cause ∷ es) h = absurd (false≢true h)
 
 busy-inside : (l : Limits) (w : ℕ) (before es : List Event) → list_all is_inside es ≡ true → are_busy l w before es ≡ true
 busy-inside l w before [] h = refl
@@ -250,14 +262,15 @@ module _ (l : Limits) (h new : List Event) (r : ℕ) (deed : Option Event) (t : 
       ∙ took-settling o t.after t.last_settling
 
   -- it is busy where it serves what its actor took before
-  turn-busy : (took : Option ℕ) → IsBusy l 1 h → list_all is_inside (event_list deed) ≡ true → last_take 1 h ≡ took
+  turn-busy : (took : Option ℕ) → IsWorked l h → list_all is_inside (event_list deed) ≡ true → last_take 1 h ≡ took
       → (elim took [
         | Some id ↦ serves_merge id (state_of l new) rest
         | None ↦ list_any is_open (state_of l h).nodes && serves_take (state_of l new) rest
       ]) ≡ true
-      → IsBusy l 1 new
-  turn-busy took b d e served = subst (IsBusy l 1) (sym t.grown) (record {
-    busy = busy-append l 1 [] h rest 1 r ∙ and_from _ _ b.busy (and_from _ _ turn (busy-inside l 1 (h ++ Tick 1 r ∷ []) rest (rest-inside d)));
+      → IsWorked l new
+  turn-busy took b d e served = subst (IsWorked l) (sym t.grown) (record {
+    busy = record { busy = busy-append l 1 [] h rest 1 r ∙ and_from _ _ b.busy.busy (and_from _ _ turn (busy-inside l 1 (h ++ Tick 1 r ∷ []) rest (rest-inside d))) };
+    own = list_all-append (is_turn_of 1) h (Tick 1 r ∷ rest) ∙ and_from _ _ b.own (own-inside 1 rest (rest-inside d));
   }) where
     at_end : is_busy_turn l 1 h 1 r rest ≡ true
     at_end = ap (λ o. elim o [
@@ -272,16 +285,16 @@ module _ (l : Limits) (h new : List Event) (r : ℕ) (deed : Option Event) (t : 
     turn = ap (is_busy_turn l 1 h 1 r) (turn-inside rest (rest-inside d)) ∙ at_end
 
   -- a turn that takes, and one that ends with an outcome, where nothing was taken
-  pub busy-over : IsBusy l 1 h → list_all is_inside (event_list deed) ≡ true → last_take 1 h ≡ None → list_any is_open (state_of l h).nodes ≡ true → has_outcome new ≡ true → IsBusy l 1 new
+  pub busy-over : IsWorked l h → list_all is_inside (event_list deed) ≡ true → last_take 1 h ≡ None → list_any is_open (state_of l h).nodes ≡ true → has_outcome new ≡ true → IsWorked l new
   busy-over b d e some over = turn-busy None b d e (and_from _ _ some
       (ap (λ o. (list_any is_take rest || o) || not (list_any is_open (state_of l new).nodes)) (over-of l new ∙ over) ∙ or-mid (list_any is_take rest) (not (list_any is_open (state_of l new).nodes))))
 
   -- a turn that ends with an outcome, and one that ends without the node, where that was taken
-  pub merge-over : (id : ℕ) → IsBusy l 1 h → list_all is_inside (event_list deed) ≡ true → last_take 1 h ≡ Some id → has_outcome new ≡ true → IsBusy l 1 new
+  pub merge-over : (id : ℕ) → IsWorked l h → list_all is_inside (event_list deed) ≡ true → last_take 1 h ≡ Some id → has_outcome new ≡ true → IsWorked l new
   merge-over id b d e over = turn-busy (Some id) b d e
       (ap (λ o. (list_any (is_deed_on id) rest || o) || not (list_any (λ n. n.id == id) (state_of l new).nodes)) (over-of l new ∙ over) ∙ or-mid (list_any (is_deed_on id) rest) (not (list_any (λ n. n.id == id) (state_of l new).nodes)))
 
-  pub merge-left : (id : ℕ) → IsBusy l 1 h → list_all is_inside (event_list deed) ≡ true → last_take 1 h ≡ Some id → not (list_any (λ n. n.id == id) (state_of l new).nodes) ≡ true → IsBusy l 1 new
+  pub merge-left : (id : ℕ) → IsWorked l h → list_all is_inside (event_list deed) ≡ true → last_take 1 h ≡ Some id → not (list_any (λ n. n.id == id) (state_of l new).nodes) ≡ true → IsWorked l new
   merge-left id b d e left = turn-busy (Some id) b d e
       (ap (λ o. (list_any (is_deed_on id) rest || (state_of l new).over) || o) left ∙ or-last (list_any (is_deed_on id) rest) (state_of l new).over)
 

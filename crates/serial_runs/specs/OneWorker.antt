@@ -2,6 +2,7 @@
 use Rattle.std.specs.Prelude.{◌≡◌, ◌⊎◌, ◌<◌, ℕ, suc, ◌+◌, ◌-◌, max, Bool, true, false, ◌||◌, ◌==◌, ◌≤◌, List, length, Some, None, Result, Ok, Err, IsTrue}
 use Rattle.std.specs.List.{list_all}
 use Rattle.tp_spec.specs.declared.event.Event.{Event}
+use Rattle.tp_spec.specs.declared.event.Event.TheVariants.{Tick}
 use Rattle.tp_spec.specs.declared.plan.Limits.{Limits}
 use Rattle.tp_spec.specs.declared.problem.Problem.{Problem}
 use Rattle.tp_spec.specs.Following.{IsBusy, last_take}
@@ -22,15 +23,25 @@ use Rattle.serial_runs.specs.Endings.{Ends, HasResult}
 abbrev pub is_open_or : ℕ → Node → Bool
 is_open_or id n = is_open n || n.id == id
 
+-- whether an event begins no turn of another actor than this one
+abbrev pub is_turn_of : ℕ → Event → Bool
+is_turn_of actor (Tick other reading) = other == actor
+is_turn_of actor _ = true
+
+-- A history is busy for one worker, and each of its turns is that worker's, actor 1.
+pub record IsWorked (l : Limits) (history : List Event) : Type 0 where
+  pub busy : IsBusy l 1 history
+  pub own : IsTrue (list_all (is_turn_of 1) history)
+
 -- between a merge and the next take: nothing is taken
 pub record IsRested (l : Limits) (history : List Event) : Type 0 where
-  pub busy : IsBusy l 1 history
+  pub busy : IsWorked l history
   pub free : last_take 1 history ≡ None
   pub all_open : IsTrue (list_all is_open (state_of l history).nodes)
 
 -- between a take and its merge: no other node is taken
 pub record HasTaken (l : Limits) (history : List Event) (id : ℕ) : Type 0 where
-  pub busy : IsBusy l 1 history
+  pub busy : IsWorked l history
   pub took : last_take 1 history ≡ Some id
   pub rest_open : IsTrue (list_all (is_open_or id) (state_of l history).nodes)
 
@@ -89,12 +100,12 @@ pub record GoesOn (p : Problem) (l : Limits) (id : ℕ) (old new : List Event) :
   pub less : left_of l (state_of l new) < left_beside id l (state_of l old)
 
 -- An outcome stands, and the history ends as the answer says. Where it ends with a result, it is
--- busy.
+-- busy, and the worker's alone.
 pub record HasSearched (l : Limits) (history : List Event) (answer : Result Unit SendFault) :
     Type 0 where
   pub outcome : has_outcome history ≡ true
   pub ends : Ends history answer
-  pub busy : HasResult history → IsBusy l 1 history
+  pub busy : HasResult history → IsWorked l history
 
 -- whether a search goes on behind a merge with this answer
 abbrev pub goes_on : {E : Type 0} → Result Merged E → Bool

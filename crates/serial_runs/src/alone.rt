@@ -3,9 +3,8 @@ ghost use Rattle.machine_run.specs.Turns.{has_outcome};
 ghost use Rattle.open_tree.specs.Charter.{SameCharter};
 ghost use Rattle.serial_runs.specs.Commands.{GivesCommands};
 ghost use Rattle.serial_runs.specs.Endings.{Ends, HasResult};
-ghost use Rattle.serial_runs.specs.OneWorker.{IsSearching, IsHolding, GoesOn, HasSearched, TakesOn};
+ghost use Rattle.serial_runs.specs.OneWorker.{IsSearching, IsHolding, GoesOn, HasSearched, IsWorked, TakesOn};
 ghost use Rattle.serial_runs.specs.Stopping.{PutsOn, answer_of};
-ghost use Rattle.tp_spec.specs.Following.{IsBusy};
 
 use crate::sending::{hand_in, may_go_on, send_new};
 use open_tree::{Job, Taken, Tree};
@@ -32,7 +31,7 @@ pub fn search<'p, C: Clock, O: Sink>(
     ensures charter { SameCharter tree.old tree.new }
     ensures outcome { has_outcome tree.new.history ≡ true }
     ensures ends { Ends tree.new.history result }
-    ensures busy { HasResult tree.new.history → IsBusy tree.new.limits 1 tree.new.history }
+    ensures busy { HasResult tree.new.history → IsWorked tree.new.limits tree.new.history }
     ensures commands { GivesCommands problem.now tree.new.limits tree.new.history (O.view out.old)
         (O.view out.new) result }
 {
