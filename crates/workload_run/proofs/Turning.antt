@@ -13,6 +13,8 @@ use Rattle.open_tree.specs.Charter.{SameCharter}
 use Rattle.open_tree.specs.Views.{TreeView}
 use Rattle.serial_runs.specs.Endings.{HasResult}
 use Rattle.serial_runs.specs.OneWorker.{IsWorked}
+use Rattle.problem_files.specs.Answers.{IsPddlProblem}
+use Rattle.workload.specs.Texts.{made_texts}
 use Rattle.workload_run.specs.Readings.{TurnState, ReadsByTurns, first_readings, turn_readings}
 use Rattle.workload_run.specs.Summaries.{IsSearch, IsSearched, marks_in}
 
@@ -21,7 +23,7 @@ by-turns : (n k : ℕ) → k < n → n ≤ 2 ^ 64 → reading_at (first_readings
 by-turns n k h few =
     let e : length (first_readings n) ≡ n = length-map-range_with_len (λ k. k / 1000) 0 n in
     ap (slice_index (first_readings n)) (omega (arith, h, few, e))
-    ∙ get_or-map-range_with_len (λ k. k / 1000) 0 n k k 0 h refl
+    ∙ get_or-map-range_with_len (λ k. k / 1000) 0 n k k 0 h (omega arith)
 
 pub reads : (k : ℕ) → k < 2 ^ 64 → reading_at turn_readings k ≡ k / 1000
 unfolding turn_readings
@@ -41,7 +43,7 @@ few-ticks (Exhaust ∷ h) = omega (arith, few-ticks h)
 few-ticks (Halt cause ∷ h) = omega (arith, few-ticks h)
 
 turned : (h : List Event) → length h < 2 ^ 64 → AreNext turn_readings 0 (readings h) → ReadsByTurns h
-turned h few next k below = next k below ∙ reads k (omega (arith, few, below, few-ticks h))
+turned h few next k below = subst (λ n. slice_index (readings h) k ≡ reading_at turn_readings n) (let e : 0 + k ≡ k = omega arith in e) (next k below) ∙ reads k (omega (arith, few, below, few-ticks h))
 
 pub search-of : (p : Problem) (l : Limits) (y : TurnState) (made new : TreeView TurnState) (h : List Event)
     → made.problem ≡ p → made.limits ≡ l → made.opened ≡ y → y.count ≡ 0 → SameCharter made new → h ≡ new.history
@@ -78,3 +80,19 @@ ids-from l m (Halt cause ∷ h) = ids-from l (step l m (Halt cause)) h
 
 pub ids-by-marks : (l : Limits) (h : List Event) → (state_of l h).made ≡ marks_in h + 1
 ids-by-marks l h = let e = ids-from l first h in omega (arith, e)
+
+pub of-made : (seed : ℕ) (domain problem : List ℕ) (p : Problem) → ◌≡◌ {A = List ℕ × List ℕ} (domain, problem) (made_texts seed)
+    → IsPddlProblem domain problem 1 p → IsPddlProblem (made_texts seed).0 (made_texts seed).1 1 p
+of-made seed domain problem p e is = subst (λ (t : List ℕ × List ℕ). IsPddlProblem t.0 t.1 1 p) e is
+
+-- the first event's marks and those of the others
+pub marks-first : (e : Event) (h : List Event) → marks_in (e ∷ h) ≡ marks_in (e ∷ []) + marks_in h
+marks-first (Tick actor reading) h = omega arith
+marks-first (Drop id) h = omega arith
+marks-first (Dispatch act) h = omega arith
+marks-first (Take actor id) h = omega arith
+marks-first (Expand actor id marks) h = omega arith
+marks-first (Publish actor id plan) h = omega arith
+marks-first (Limit actor id made marks) h = omega arith
+marks-first Exhaust h = omega arith
+marks-first (Halt cause) h = omega arith

@@ -65,8 +65,9 @@ impl Clock for TurnClock {
     }
 
     fn read(&mut self) -> u64 {
-        self.last = self.count / 1000;
-        self.count = self.count.saturating_add(1);
+        let count = self.count;
+        self.last = count / 1000;
+        self.count = count.saturating_add(1);
         self.last
     }
 }
