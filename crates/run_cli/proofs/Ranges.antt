@@ -10,14 +10,14 @@ use Rattle.run_cli.specs.declared.options.Command.TheVariants as commands
 use Rattle.run_cli.specs.declared.options.Numbers.{Numbers}
 use Rattle.run_cli.specs.declared.options.Setting.TheVariants.{Lead, Actions, Horizon, Nodes, Scale}
 use Rattle.run_cli.specs.declared.words.Order.{Order}
-use Rattle.run_cli.specs.declared.words.Order.TheVariants.{Solve, Simulate, Validate, Ground, Help}
+use Rattle.run_cli.specs.declared.words.Order.TheVariants.{Solve, Simulate, Validate, Ground, Replay, Help}
 use Rattle.run_cli.specs.declared.words.Source.{Source}
 use Rattle.run_cli.specs.declared.words.Source.TheVariants.{GroundText, Pddl}
 use Rattle.run_cli.specs.declared.words.WordFault.{WordFault}
 use Rattle.run_cli.specs.declared.words.WordFault.TheVariants.{FileCount}
 use Rattle.run_cli.specs.Arguments.{Argument, arguments_of}
 use Rattle.run_cli.specs.Options.{is_number, is_scale, within, among, command_named, options_of, takes}
-use Rattle.run_cli.specs.Orders.{number_or, number_of, limits_of, source_from, NamedFiles, named_of, simulation, validation, grounding, order_with, with_source, is_help, order_from, judged, faults_from, files_of, first_name, second_name, value_of, is_given, whole_order, commanded, order_of}
+use Rattle.run_cli.specs.Orders.{number_or, number_of, limits_of, source_from, NamedFiles, named_of, simulation, validation, grounding, replaying, order_with, with_source, is_help, order_from, judged, faults_from, files_of, first_name, second_name, value_of, is_given, whole_order, commanded, order_of}
 use Rattle.run_cli.specs.Sources.{IsScaled}
 
 within-most : (low high n default : ℕ) → default ≤ high → unwrap_or (within low high n) default ≤ high
@@ -74,6 +74,7 @@ Orders (Ok (Solve source limits trace)) = AreLimits limits × IsScaled source
 Orders (Ok (Simulate source script limits trace)) = AreLimits limits × IsScaled source
 Orders (Ok (Validate source plan limits)) = IsScaled source
 Orders (Ok (Ground domain problem scale)) = IsScale scale
+Orders (Ok (Replay source trace limits)) = AreLimits limits × IsScaled source
 Orders (Ok Help) = Unit {0}
 Orders (Err fault) = Unit {0}
 
@@ -90,12 +91,17 @@ grounding-orders : (count : ℕ) (source : Source) → IsScaled source → Order
 grounding-orders count (GroundText name) is = tt
 grounding-orders count (Pddl domain problem scale) is = is
 
+replaying-orders : (count : ℕ) (trace : Option (List ℕ)) (source : Source) (limits : Limits) → AreLimits limits → IsScaled source → Orders (replaying count trace source limits)
+replaying-orders count None source limits are is = tt
+replaying-orders count (Some trace) source limits are is = (are, is)
+
 with-orders : (command : Command) (count : ℕ) (named : NamedFiles) (limits : Limits) (source : Source) → AreLimits limits → IsScaled source
     → Orders (order_with command count named limits source)
 with-orders commands.Solve count named limits source are is = (are, is)
 with-orders commands.Simulate count named limits source are is = simulation-orders count named.script source limits named.trace are is
 with-orders commands.Validate count named limits source are is = validation-orders count named.plan source limits is
 with-orders commands.Ground count named limits source are is = grounding-orders count source is
+with-orders commands.Replay count named limits source are is = replaying-orders count named.trace source limits are is
 with-orders commands.Help count named limits source are is = tt
 
 source-orders : (command : Command) (count : ℕ) (named : NamedFiles) (limits : Limits) → AreLimits limits → (first second : Option (List ℕ)) (scaled : Bool) (scale : ℕ) → IsScale scale
@@ -146,3 +152,6 @@ validate-range words source plan limits is = subst Orders is (orders words)
 
 pub ground-range : (words : List (List ℕ)) (domain problem : List ℕ) (scale : ℕ) → order_of words ≡ Ok (Ground domain problem scale) → IsScale scale
 ground-range words domain problem scale is = subst Orders is (orders words)
+
+pub replay-range : (words : List (List ℕ)) (source : Source) (trace : List ℕ) (limits : Limits) → order_of words ≡ Ok (Replay source trace limits) → AreLimits limits × IsScaled source
+replay-range words source trace limits is = subst Orders is (orders words)

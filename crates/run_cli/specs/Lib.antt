@@ -5,6 +5,7 @@ pub mod Outcomes
 pub mod Grounds
 pub mod Help
 pub mod Printing
+pub mod Replaying
 pub mod Runs
 pub mod Sources
 pub mod Solving

@@ -5,20 +5,21 @@ use Rattle.std.specs.Char.{is_ascii_digit}
 use Rattle.std.specs.List.{list_all}
 use Rattle.std.specs.Str.Parse.{digits_value}
 use Rattle.run_cli.specs.declared.options.Command.{Command}
-use Rattle.run_cli.specs.declared.options.Command.TheVariants.{Solve, Simulate, Validate, Ground, Help}
+use Rattle.run_cli.specs.declared.options.Command.TheVariants.{Solve, Simulate, Validate, Ground, Replay, Help}
 use Rattle.run_cli.specs.declared.options.Numbers.{Numbers}
 use Rattle.run_cli.specs.declared.options.Setting.{Setting}
 use Rattle.run_cli.specs.declared.options.Setting.TheVariants.{Lead, Actions, Horizon, Nodes, Scale, Script, PlanFile, TraceFile}
 
 -- all commands
 abbrev pub all_commands : List Command
-all_commands = Solve ∷ Simulate ∷ Validate ∷ Ground ∷ Help ∷ []
+all_commands = Solve ∷ Simulate ∷ Validate ∷ Ground ∷ Replay ∷ Help ∷ []
 
 abbrev pub command_name : Command → List ℕ
 command_name Solve = codes "solve"
 command_name Simulate = codes "simulate"
 command_name Validate = codes "validate"
 command_name Ground = codes "ground"
+command_name Replay = codes "replay"
 command_name Help = codes "help"
 
 -- the least and the greatest number of files of a command
@@ -27,6 +28,7 @@ file_bounds Solve = (1, 2)
 file_bounds Simulate = (1, 2)
 file_bounds Validate = (1, 2)
 file_bounds Ground = (2, 2)
+file_bounds Replay = (1, 2)
 file_bounds Help = (0, 0)
 
 -- the options of a command
@@ -36,6 +38,7 @@ options_of Simulate =
     Script ∷ Lead ∷ Actions ∷ Horizon ∷ Nodes ∷ Scale ∷ TraceFile ∷ []
 options_of Validate = PlanFile ∷ Actions ∷ Horizon ∷ Scale ∷ []
 options_of Ground = Scale ∷ []
+options_of Replay = TraceFile ∷ Lead ∷ Actions ∷ Horizon ∷ Nodes ∷ Scale ∷ []
 options_of Help = []
 
 -- the command of this name among some

@@ -9,7 +9,7 @@ use Rattle.run_cli.specs.declared.options.Setting.{Setting}
 use Rattle.run_cli.specs.declared.options.Setting.TheVariants.{Lead, Actions, Horizon, Nodes, Scale, Script, PlanFile, TraceFile}
 use Rattle.run_cli.specs.declared.words.Named.{Named}
 use Rattle.run_cli.specs.declared.words.Order.{Order}
-use Rattle.run_cli.specs.declared.words.Order.TheVariants.{Solve, Simulate, Validate, Ground, Help}
+use Rattle.run_cli.specs.declared.words.Order.TheVariants.{Solve, Simulate, Validate, Ground, Replay, Help}
 use Rattle.run_cli.specs.declared.words.Source.{Source}
 use Rattle.run_cli.specs.declared.words.Source.TheVariants.{GroundText, Pddl}
 use Rattle.run_cli.specs.declared.words.WordFault.{WordFault}
@@ -126,8 +126,8 @@ source_from count (Some name) None true scale = Err (ScaleOfGround count)
 source_from count (Some name) None false scale = Ok (GroundText name)
 source_from count (Some domain) (Some problem) scaled scale = Ok (Pddl domain problem scale)
 
--- The files that options name, each where it is given: a script, a plan file, and the file in which
--- a run is kept.
+-- The files that options name, each where it is given: a script, a plan file, and the file of a
+-- trace.
 pub record NamedFiles : Type 0 where
   pub script : Option (List ℕ)
   pub plan : Option (List ℕ)
@@ -160,6 +160,11 @@ abbrev pub validation : ℕ → Option (List ℕ) → Source → Limits → Resu
 validation count None source limits = Err (Missing count)
 validation count (Some plan) source limits = Ok (Validate source plan limits)
 
+-- to judge a trace, which is needed
+abbrev pub replaying : ℕ → Option (List ℕ) → Source → Limits → Result Order WordFault
+replaying count None source limits = Err (Missing count)
+replaying count (Some trace) source limits = Ok (Replay source trace limits)
+
 -- to ground a domain and a problem, which both are needed
 abbrev pub grounding : ℕ → Source → Result Order WordFault
 grounding count (GroundText name) = Err (FileCount count)
@@ -173,6 +178,8 @@ order_with commands.Simulate count named limits source =
 order_with commands.Validate count named limits source =
     validation count named.plan source limits
 order_with commands.Ground count named limits source = grounding count source
+order_with commands.Replay count named limits source =
+    replaying count named.trace source limits
 order_with commands.Help count named limits source = Ok Help
 
 -- an order with the source that was named, or what is wrong with it
@@ -236,6 +243,7 @@ is_solve (Ok (Solve source limits trace)) = true
 is_solve (Ok (Simulate source script limits trace)) = false
 is_solve (Ok (Validate source plan limits)) = false
 is_solve (Ok (Ground domain problem scale)) = false
+is_solve (Ok (Replay source trace limits)) = false
 is_solve (Ok Help) = false
 is_solve (Err fault) = false
 
@@ -245,6 +253,7 @@ is_simulate (Ok (Solve source limits trace)) = false
 is_simulate (Ok (Simulate source script limits trace)) = true
 is_simulate (Ok (Validate source plan limits)) = false
 is_simulate (Ok (Ground domain problem scale)) = false
+is_simulate (Ok (Replay source trace limits)) = false
 is_simulate (Ok Help) = false
 is_simulate (Err fault) = false
 
@@ -254,6 +263,7 @@ trace_of (Ok (Solve source limits trace)) = trace
 trace_of (Ok (Simulate source script limits trace)) = trace
 trace_of (Ok (Validate source plan limits)) = None
 trace_of (Ok (Ground domain problem scale)) = None
+trace_of (Ok (Replay source trace limits)) = None
 trace_of (Ok Help) = None
 trace_of (Err fault) = None
 

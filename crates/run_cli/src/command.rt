@@ -9,6 +9,7 @@ use crate::answer::Answer;
 use crate::ending::{Ending, say, unsearched};
 use crate::grounding::ground_files;
 use crate::help::help_text;
+use crate::replaying::replay_files;
 use crate::solving::leave_file;
 use crate::tracing::{simulate_kept, solve_kept};
 use crate::validating::judge_files;
@@ -22,11 +23,13 @@ use tp_world::{Clock, Files, Gate, Sink};
 /// searches for a plan with one worker, and prints a plan, `exhausted` or `limit`; `simulate` runs
 /// the steps of a script; `validate` prints whether the plan of a plan file is valid, and else the
 /// first of its parts that is broken; `ground` prints the ground text of a domain and a problem;
-/// `help` prints a line for each command. The status is 0 where a plan is published or valid, or a
-/// text is printed, 1 where the search is exhausted or the plan is not valid, 2 at the limit of
-/// ids, 3 where the words are refused, 4 where a file is, 5 where one can't be loaded, 6 where the
-/// output fails, 7 where memory is refused, and 8 where the script ends before the search. Only
-/// `solve` begins and reads the clock, and only `solve` and `simulate` have a history.
+/// `replay` prints how many events a trace has, or the first that breaks a rule; `help` prints a
+/// line for each command. The status is 0 where a plan is published or valid, no rule is broken, or
+/// a text is printed, 1 where the search is exhausted, the plan is not valid, or a rule is broken,
+/// 2 at the limit of ids, 3 where the words are refused, 4 where a file is, 5 where one can't be
+/// loaded, 6 where the output fails, 7 where memory is refused, and 8 where the script ends before
+/// the search. Only `solve` begins and reads the clock, and only `solve` and `simulate` have a
+/// history.
 pub fn run<F: Files, O: Sink + Send, C: Clock + Send, G: Gate>(
     alloc: Global,
     words: &[String],
@@ -109,6 +112,13 @@ pub fn run<F: Files, O: Sink + Send, C: Clock + Send, G: Gate>(
             };
             ground_files(alloc, &source, files, out, clock)
         }
+        Ok(
+            Order::Replay {
+                source,
+                trace,
+                limits,
+            },
+        ) => replay_files(alloc, &source, trace.as_str(), &limits, files, out, clock),
         Ok(Order::Help) => print_help(alloc, out, clock),
         Err(fault) => refuse_words(alloc, fault, out, clock),
     }
@@ -178,6 +188,13 @@ pub fn run_local<F: Files, O: Sink, C: Clock>(
             };
             ground_files(alloc, &source, files, out, clock)
         }
+        Ok(
+            Order::Replay {
+                source,
+                trace,
+                limits,
+            },
+        ) => replay_files(alloc, &source, trace.as_str(), &limits, files, out, clock),
         Ok(Order::Help) => print_help(alloc, out, clock),
         Err(fault) => refuse_words(alloc, fault, out, clock),
     }

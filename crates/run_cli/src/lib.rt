@@ -12,6 +12,7 @@ mod options;
 mod outcome;
 mod printing;
 mod reader;
+mod replaying;
 mod simulating;
 mod solving;
 mod tracing;

@@ -14,6 +14,8 @@ pub enum Command {
     Validate,
     /// Prints the ground text of a domain and a problem.
     Ground,
+    /// Judges the trace of a run.
+    Replay,
     /// Tells the commands, with their files and options.
     Help,
 }
@@ -35,7 +37,7 @@ pub enum Setting {
     Script,
     /// The plan file that is to be judged.
     PlanFile,
-    /// The file in which the decisions of a run are kept.
+    /// The file in which the decisions of a run are kept, or from which they are read.
     TraceFile,
 }
 
@@ -65,6 +67,7 @@ pub fn all_commands() -> &'static [Command]
         Command::Simulate,
         Command::Validate,
         Command::Ground,
+        Command::Replay,
         Command::Help,
     ]
 }
@@ -78,6 +81,7 @@ pub fn command_name(command: Command) -> &'static [u8]
         Command::Simulate => b"simulate",
         Command::Validate => b"validate",
         Command::Ground => b"ground",
+        Command::Replay => b"replay",
         Command::Help => b"help",
     }
 }
@@ -91,6 +95,7 @@ pub fn file_bounds(command: Command) -> (u64, u64)
         Command::Simulate => (1, 2),
         Command::Validate => (1, 2),
         Command::Ground => (2, 2),
+        Command::Replay => (1, 2),
         Command::Help => (0, 0),
     }
 }
@@ -144,6 +149,14 @@ pub fn options_of(command: Command) -> &'static [Setting]
             Setting::Scale,
         ],
         Command::Ground => &[Setting::Scale],
+        Command::Replay => &[
+            Setting::TraceFile,
+            Setting::Lead,
+            Setting::Actions,
+            Setting::Horizon,
+            Setting::Nodes,
+            Setting::Scale,
+        ],
         Command::Help => &[],
     }
 }

@@ -5,7 +5,7 @@ ghost use Rattle.run_cli.specs.Arguments.{view_of};
 ghost use Rattle.run_cli.specs.declared.words.WordFault.TheVariants.{NoValue as no_value};
 ghost use Rattle.run_cli.specs.declared.words.WordFault.TheVariants.{NoMemory as no_memory};
 ghost use Rattle.run_cli.specs.declared.words.Order.TheVariants.{Solve as search_of};
-ghost use Rattle.run_cli.specs.Orders.{gives, is_given, twice_faults, range_faults, argument_faults, faults_from, files_of, first_name, second_name, value_of, number_or, number_of, most_of, limits_of, source_from, named_view, named_of, simulation, validation, grounding, order_with, is_help, order_from, whole_order, ordered, order_of, Answers, first_of, named_fault, fault_text};
+ghost use Rattle.run_cli.specs.Orders.{gives, is_given, twice_faults, range_faults, argument_faults, faults_from, files_of, first_name, second_name, value_of, number_or, number_of, most_of, limits_of, source_from, named_view, named_of, simulation, validation, grounding, replaying, order_with, is_help, order_from, whole_order, ordered, order_of, Answers, first_of, named_fault, fault_text};
 
 use crate::arguments::{Argument, arguments_of};
 use crate::options::{
@@ -59,6 +59,12 @@ pub enum Order {
         domain: Name,
         problem: Name,
         scale: u32,
+    },
+    /// To judge the trace of a run on a problem, with the limits of that run.
+    Replay {
+        source: Source,
+        trace: Name,
+        limits: Limits,
     },
     /// To tell the commands.
     Help,
@@ -444,6 +450,27 @@ fn grounding(count: u32, source: Source) -> Result<Order, WordFault>
     }
 }
 
+/// To judge a trace, which is needed.
+fn replaying(
+    alloc: Global,
+    count: u32,
+    trace: Option<&str>,
+    source: Source,
+    limits: Limits,
+) -> Result<Order, WordFault>
+    ensures { Answers result (replaying count (option_map (λ t. t.now) trace.entry) source
+        limits) }
+{
+    match trace {
+        Some(trace) => Ok(Order::Replay {
+            source,
+            trace: Name::of(alloc, trace)?,
+            limits,
+        }),
+        None => Err(WordFault::Missing { at: count }),
+    }
+}
+
 /// The order of a command that has a source, with the files that options name.
 fn order_with(
     alloc: Global,
@@ -460,6 +487,7 @@ fn order_with(
         Command::Simulate => { simulation(alloc, count, named.script, source, limits, named.trace) }
         Command::Validate => validation(alloc, count, named.plan, source, limits),
         Command::Ground => grounding(count, source),
+        Command::Replay => replaying(alloc, count, named.trace, source, limits),
         Command::Help => Ok(Order::Help),
     }
 }
@@ -553,9 +581,9 @@ fn judge(
 /// problem; those take `--scale` (1, 10, 100 or 1000). `solve` takes a problem and `--lead` (0 to
 /// 1000), `--actions` (1 to 64), `--horizon` (1 to 2^40), `--nodes` (1 to 200,000) and `--trace`, a
 /// file; `simulate` takes these and `--script`, which it needs; `validate` takes a problem,
-/// `--plan`, which it needs, `--actions` and `--horizon`; `ground` takes two files; `help` takes no
-/// file and no option. The answer is exactly what the words say, or their first fault, or want of
-/// memory.
+/// `--plan`, which it needs, `--actions` and `--horizon`; `ground` takes two files; `replay` takes
+/// the words of `solve`, and needs `--trace`; `help` takes no file and no option. The answer is
+/// exactly what the words say, or their first fault, or want of memory.
 pub fn read_words(alloc: Global, words: &[String]) -> Result<Order, WordFault>
     requires { length words.now < 2 ^ 31 }
     ensures { Answers result (order_of (map string_bytes words.now)) }
