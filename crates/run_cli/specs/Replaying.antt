@@ -1,5 +1,5 @@
--- What `replay` gives for its files: what a trace is judged to be, a refusal, or a failed load; each
--- with its status and its line.
+-- What `replay` gives for its files: what a trace is judged to be, a refusal, or a failed load;
+-- each with its status and its line.
 use Rattle.std.specs.Prelude.{◌≡◌, ◌⊎◌, ℕ, List, [], ◌∷◌, ◌++◌, Option, Some, None, codes, decimal}
 use Rattle.tp_spec.specs.declared.event.Event.{Event}
 use Rattle.tp_spec.specs.declared.fault.LineFault.{LineFault}
