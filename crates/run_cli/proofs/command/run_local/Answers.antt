@@ -1,6 +1,7 @@
 use Rattle.std.proofs.Common.{◌∙◌, ap, refl, map, Ok, string_bytes}
 use Rattle.run_cli.proofs.Stopping.{fault-local}
-use Rattle.run_cli.specs.Orders.{order_of}
+use Rattle.run_cli.proofs.Traced.{same-keeps}
+use Rattle.run_cli.specs.Orders.{order_of, trace_of}
 use Rattle.tp_world.specs.Views.{Outside}
 use Rattle.run_cli.proofs.Ranges.{solve-range, simulate-range, validate-range, ground-range, replay-range}
 use Rattle.run_cli.proofs.command.run_local.Goals as goal
@@ -31,6 +32,10 @@ replay_files-requires-clause-scaled g c =
 pub ground_files-requires : goal.ground_files-requires
 ground_files-requires g c =
     ground-range (map string_bytes c.args.words.now) c.in-Ok-Ground.domain c.in-Ok-Ground.problem c.in-Ok-Ground.scale (c.in-Ok-Ground.ensures ∙ ap Ok c.in-Ok-Ground.field-0-is)
+
+pub returns-in-Ok-Solve-clause-contents : goal.returns-in-Ok-Solve-clause-contents
+returns-in-Ok-Solve-clause-contents g c =
+    same-keeps (trace_of (order_of (map string_bytes c.args.words.now))) (g.F.Files.view c.args.files.now).contents (g.F.Files.view c.leave_file.new.files).contents c.leave_file.ensures.contents
 
 pub returns-clause-ends : goal.returns-clause-ends
 returns-clause-ends g c =
