@@ -35,7 +35,7 @@ fn numbers_in(order: &Order) -> Numbers {
             limits: None,
             scale: *scale,
         },
-        Order::Help => Numbers {
+        Order::Summary { .. } | Order::Help => Numbers {
             limits: None,
             scale: 0,
         },

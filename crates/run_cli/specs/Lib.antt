@@ -12,6 +12,7 @@ pub mod Solving
 pub mod Simulating
 pub mod Statuses
 pub mod Stopping
+pub mod Summing
 pub mod Tracing
 pub mod Validating
 pub mod VerdictTexts

@@ -1,5 +1,5 @@
 ghost use Rattle.std.specs.Prelude.{◌≡◌, ◌<◌, ◌^◌, ◌⊎◌, [], map, length, true, false, string_bytes};
-ghost use Rattle.run_cli.specs.Orders.{order_of, fault_text, is_solve, is_simulate, trace_of, is_memory as is_memory_of};
+ghost use Rattle.run_cli.specs.Orders.{order_of, fault_text, is_solve, is_simulate, is_summary, trace_of, is_memory as is_memory_of};
 ghost use Rattle.run_cli.specs.Help.{help_text};
 ghost use Rattle.run_cli.specs.Printing.{Prints, PrintsNothing};
 ghost use Rattle.run_cli.specs.Statuses.{EndsLocal, EndsRun};
@@ -11,6 +11,7 @@ use crate::grounding::ground_files;
 use crate::help::help_text;
 use crate::replaying::replay_files;
 use crate::solving::leave_file;
+use crate::summarizing::summarize;
 use crate::tracing::{simulate_kept, solve_kept};
 use crate::validating::judge_files;
 use crate::words::{Order, Source, WordFault, fault_line, read_words};
@@ -119,6 +120,7 @@ pub fn run<F: Files, O: Sink + Send, C: Clock + Send, G: Gate>(
                 limits,
             },
         ) => replay_files(alloc, &source, trace.as_str(), &limits, files, out, clock),
+        Ok(Order::Summary { seed }) => summarize(alloc, seed, out, clock),
         Ok(Order::Help) => print_help(alloc, out, clock),
         Err(fault) => refuse_words(alloc, fault, out, clock),
     }
@@ -145,6 +147,7 @@ pub fn run_local<F: Files, O: Sink, C: Clock>(
     ensures unchanged { is_simulate (order_of (map string_bytes words.now)) ≡ false
         → (F.view files.new).contents ≡ (F.view files.old).contents }
     ensures history { is_simulate (order_of (map string_bytes words.now)) ≡ false
+        → is_summary (order_of (map string_bytes words.now)) ≡ false
         → result.history.items ≡ [] }
     ensures clock { result.clock ≡ clock }
 {
@@ -195,6 +198,7 @@ pub fn run_local<F: Files, O: Sink, C: Clock>(
                 limits,
             },
         ) => replay_files(alloc, &source, trace.as_str(), &limits, files, out, clock),
+        Ok(Order::Summary { seed }) => summarize(alloc, seed, out, clock),
         Ok(Order::Help) => print_help(alloc, out, clock),
         Err(fault) => refuse_words(alloc, fault, out, clock),
     }

@@ -15,6 +15,7 @@ mod reader;
 mod replaying;
 mod simulating;
 mod solving;
+mod summarizing;
 mod tracing;
 mod validating;
 mod verdicts;

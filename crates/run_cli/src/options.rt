@@ -16,6 +16,8 @@ pub enum Command {
     Ground,
     /// Judges the trace of a run.
     Replay,
+    /// Searches for a plan of a problem that a seed draws.
+    Summary,
     /// Tells the commands, with their files and options.
     Help,
 }
@@ -39,6 +41,8 @@ pub enum Setting {
     PlanFile,
     /// The file in which the decisions of a run are kept, or from which they are read.
     TraceFile,
+    /// The number that a problem is drawn from.
+    Seed,
 }
 
 /// The numbers that an option takes: from `least` to `most`, only those of a scale (1, 10, 100 and
@@ -68,6 +72,7 @@ pub fn all_commands() -> &'static [Command]
         Command::Validate,
         Command::Ground,
         Command::Replay,
+        Command::Summary,
         Command::Help,
     ]
 }
@@ -82,6 +87,7 @@ pub fn command_name(command: Command) -> &'static [u8]
         Command::Validate => b"validate",
         Command::Ground => b"ground",
         Command::Replay => b"replay",
+        Command::Summary => b"summary",
         Command::Help => b"help",
     }
 }
@@ -96,6 +102,7 @@ pub fn file_bounds(command: Command) -> (u64, u64)
         Command::Validate => (1, 2),
         Command::Ground => (2, 2),
         Command::Replay => (1, 2),
+        Command::Summary => (0, 0),
         Command::Help => (0, 0),
     }
 }
@@ -157,6 +164,7 @@ pub fn options_of(command: Command) -> &'static [Setting]
             Setting::Nodes,
             Setting::Scale,
         ],
+        Command::Summary => &[Setting::Seed],
         Command::Help => &[],
     }
 }
@@ -212,6 +220,7 @@ fn row_of(setting: Setting) -> Row
         Setting::Script => worded(b"script"),
         Setting::PlanFile => worded(b"plan"),
         Setting::TraceFile => worded(b"trace"),
+        Setting::Seed => numbered(b"seed", 0, 9_999_999_999_999, 0),
     }
 }
 

@@ -5,7 +5,7 @@ ghost use Rattle.run_cli.specs.Arguments.{view_of};
 ghost use Rattle.run_cli.specs.declared.words.WordFault.TheVariants.{NoValue as no_value};
 ghost use Rattle.run_cli.specs.declared.words.WordFault.TheVariants.{NoMemory as no_memory};
 ghost use Rattle.run_cli.specs.declared.words.Order.TheVariants.{Solve as search_of};
-ghost use Rattle.run_cli.specs.Orders.{gives, is_given, twice_faults, range_faults, argument_faults, faults_from, files_of, first_name, second_name, value_of, number_or, number_of, most_of, limits_of, source_from, named_view, named_of, simulation, validation, grounding, replaying, order_with, is_help, order_from, whole_order, ordered, order_of, Answers, first_of, named_fault, fault_text};
+ghost use Rattle.run_cli.specs.Orders.{gives, is_given, twice_faults, range_faults, argument_faults, faults_from, files_of, first_name, second_name, value_of, number_or, number_of, most_of, limits_of, source_from, named_view, named_of, simulation, validation, grounding, replaying, order_with, summary, sourceless, order_from, whole_order, ordered, order_of, Answers, first_of, named_fault, fault_text};
 
 use crate::arguments::{Argument, arguments_of};
 use crate::options::{
@@ -65,6 +65,10 @@ pub enum Order {
         source: Source,
         trace: Name,
         limits: Limits,
+    },
+    /// To search for a plan of the problem that this number draws, and to tell its sizes.
+    Summary {
+        seed: u64,
     },
     /// To tell the commands.
     Help,
@@ -488,6 +492,7 @@ fn order_with(
         Command::Validate => validation(alloc, count, named.plan, source, limits),
         Command::Ground => grounding(count, source),
         Command::Replay => replaying(alloc, count, named.trace, source, limits),
+        Command::Summary => Err(WordFault::FileCount { at: count }),
         Command::Help => Ok(Order::Help),
     }
 }
@@ -503,11 +508,32 @@ fn named_of<'a>(arguments: &[Argument<'a>]) -> Named<'a>
     }
 }
 
-/// Whether a command is the one that has no source.
-fn is_help(command: Command) -> bool
-    ensures { result ≡ is_help command }
+/// To search for a plan of the problem that a seed draws; the seed has to be given.
+fn summary(count: u32, value: Option<&str>, seed: u64) -> Result<Order, WordFault>
+    ensures { result ≡ summary count (option_map (λ t. t.now) value.entry) seed }
 {
-    matches!(command, Command::Help)
+    match value {
+        Some(_) => Ok(Order::Summary { seed }),
+        None => Err(WordFault::Missing { at: count }),
+    }
+}
+
+/// The order of a command that has no source; none where the command has one.
+fn sourceless(
+    command: Command,
+    count: u32,
+    arguments: &[Argument<'_>],
+) -> Option<Result<Order, WordFault>>
+    ensures { result ≡ sourceless command count (map view_of arguments.now) }
+{
+    match command {
+        Command::Help => Some(Ok(Order::Help)),
+        Command::Summary => {
+            let value = value_of(arguments, Setting::Seed);
+            Some(summary(count, value, number_of(arguments, Setting::Seed)))
+        }
+        _ => None,
+    }
 }
 
 /// The order of a command with its files, those that options name, and its scale.
@@ -520,8 +546,8 @@ fn order_from(
 ) -> Result<Order, WordFault>
     ensures { Answers result (order_from command count (map view_of arguments.now)) }
 {
-    if is_help(command) {
-        return Ok(Order::Help);
+    if let Some(order) = sourceless(command, count, arguments) {
+        return order;
     }
     let source = source_from(
         alloc,
@@ -582,7 +608,8 @@ fn judge(
 /// 1000), `--actions` (1 to 64), `--horizon` (1 to 2^40), `--nodes` (1 to 200,000) and `--trace`, a
 /// file; `simulate` takes these and `--script`, which it needs; `validate` takes a problem,
 /// `--plan`, which it needs, `--actions` and `--horizon`; `ground` takes two files; `replay` takes
-/// the words of `solve`, and needs `--trace`; `help` takes no file and no option. The answer is
+/// the words of `solve`, and needs `--trace`; `summary` takes no file and `--seed` (0 to
+/// 9,999,999,999,999), which it needs; `help` takes no file and no option. The answer is
 /// exactly what the words say, or their first fault, or want of memory.
 pub fn read_words(alloc: Global, words: &[String]) -> Result<Order, WordFault>
     requires { length words.now < 2 ^ 31 }
