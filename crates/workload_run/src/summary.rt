@@ -30,8 +30,9 @@ pub struct Summary {
 /// answered as want of memory.
 pub fn summary_of(alloc: Global, seed: u64, limits: Limits) -> Result<Summary, NoMemory>
     requires { AreLimits limits }
-    ensures { IfOk result
+    ensures sums { IfOk result
         (λ s. IsSummary seed limits s.text.items s.status s.history.items) }
+    ensures below { IfOk result (λ s. s.status < 3) }
 {
     let problem = problem_of(alloc, seed)?;
     let history = searched(alloc, &problem, limits)?;
@@ -60,8 +61,9 @@ fn summed_up(
     requires limits { AreLimits limits }
     requires made { IsPddlProblem (made_texts seed).0 (made_texts seed).1 1 problem.now }
     requires searched { IsSearched problem.now limits history.items }
-    ensures { IfOk result
+    ensures sums { IfOk result
         (λ s. IsSummary seed limits s.text.items s.status s.history.items) }
+    ensures below { IfOk result (λ s. s.status < 3) }
 {
     states_of_runs();
     ids_of_histories();
@@ -82,7 +84,8 @@ fn text_and_status(
 ) -> Result<(Vec<u8>, u8), NoMemory>
     requires few { marks_in history.now < 2 ^ 31 }
     requires some { 0 < length history.now }
-    ensures { IfOk result (λ r. (front : History) (last : AnEvent) → history.now ≡ front ++ last ∷ []
+    ensures below { IfOk result (λ r. r.1 < 3) }
+    ensures sums { IfOk result (λ r. (front : History) (last : AnEvent) → history.now ≡ front ++ last ∷ []
         → (r.0.items ≡ text_by seed problem.now (marks_in history.now + 1) last)
         × (r.1 ≡ result_status last)) }
 {
