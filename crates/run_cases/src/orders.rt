@@ -26,7 +26,8 @@ fn numbers_in(order: &Order) -> Numbers {
     match order {
         Order::Solve { source, limits, .. }
         | Order::Simulate { source, limits, .. }
-        | Order::Validate { source, limits, .. } => Numbers {
+        | Order::Validate { source, limits, .. }
+        | Order::Replay { source, limits, .. } => Numbers {
             limits: Some(*limits),
             scale: scale_of(source),
         },
@@ -34,7 +35,7 @@ fn numbers_in(order: &Order) -> Numbers {
             limits: None,
             scale: *scale,
         },
-        Order::Help => Numbers {
+        Order::Summary { .. } | Order::Help => Numbers {
             limits: None,
             scale: 0,
         },

@@ -2,7 +2,7 @@
 use Rattle.std.proofs.Common.{◌≡◌, ℕ, List, [], ◌++◌, ap, codes, arith}
 use Rattle.std.proofs.lemmas.Fmt.{decimal_digit}
 use Rattle.run_cli.specs.declared.options.Command.{Command}
-use Rattle.run_cli.specs.declared.options.Command.TheVariants.{Solve, Simulate, Validate, Ground, Help}
+use Rattle.run_cli.specs.declared.options.Command.TheVariants.{Solve, Simulate, Validate, Ground, Replay, Summary, Help}
 use Rattle.run_cli.specs.Help.{command_line, files_text, options_text, help_text}
 use Rattle.run_cli.specs.Options.{command_name, options_of}
 
@@ -25,8 +25,14 @@ validate_line = ap (line_round Validate) one_or_two
 ground_line : command_line Ground ≡ codes "ground 2 --scale\n"
 ground_line = ap (line_round Ground) (decimal_digit 2 (omega arith))
 
+replay_line : command_line Replay ≡ codes "replay 1-2 --trace --lead --actions --horizon --nodes --scale\n"
+replay_line = ap (line_round Replay) one_or_two
+
+summary_line : command_line Summary ≡ codes "summary 0 --seed\n"
+summary_line = ap (line_round Summary) (decimal_digit 0 (omega arith))
+
 help_line : command_line Help ≡ codes "help 0\n"
 help_line = ap (line_round Help) (decimal_digit 0 (omega arith))
 
-shown : help_text ≡ codes "solve 1-2 --lead --actions --horizon --nodes --scale --trace\nsimulate 1-2 --script --lead --actions --horizon --nodes --scale --trace\nvalidate 1-2 --plan --actions --horizon --scale\nground 2 --scale\nhelp 0\n"
-shown = λ i. solve_line i ++ (simulate_line i ++ (validate_line i ++ (ground_line i ++ (help_line i ++ []))))
+shown : help_text ≡ codes "solve 1-2 --lead --actions --horizon --nodes --scale --trace\nsimulate 1-2 --script --lead --actions --horizon --nodes --scale --trace\nvalidate 1-2 --plan --actions --horizon --scale\nground 2 --scale\nreplay 1-2 --trace --lead --actions --horizon --nodes --scale\nsummary 0 --seed\nhelp 0\n"
+shown = λ i. solve_line i ++ (simulate_line i ++ (validate_line i ++ (ground_line i ++ (replay_line i ++ (summary_line i ++ (help_line i ++ []))))))

@@ -9,6 +9,7 @@ pub mod Stopping
 pub mod Scripted
 pub mod Outcomes
 pub mod Bounded
+pub mod FewEvents
 pub mod Numerals
 pub mod Dashes
 pub mod FirstFaults

@@ -8,16 +8,16 @@ use Rattle.word_network.specs.Conditions.{AreLimits}
 use Rattle.run_cli.specs.declared.options.Command.{Command}
 use Rattle.run_cli.specs.declared.options.Command.TheVariants as commands
 use Rattle.run_cli.specs.declared.options.Numbers.{Numbers}
-use Rattle.run_cli.specs.declared.options.Setting.TheVariants.{Lead, Actions, Horizon, Nodes, Scale}
+use Rattle.run_cli.specs.declared.options.Setting.TheVariants.{Lead, Actions, Horizon, Nodes, Scale, Seed}
 use Rattle.run_cli.specs.declared.words.Order.{Order}
-use Rattle.run_cli.specs.declared.words.Order.TheVariants.{Solve, Simulate, Validate, Ground, Help}
+use Rattle.run_cli.specs.declared.words.Order.TheVariants.{Solve, Simulate, Validate, Ground, Replay, Summary, Help}
 use Rattle.run_cli.specs.declared.words.Source.{Source}
 use Rattle.run_cli.specs.declared.words.Source.TheVariants.{GroundText, Pddl}
 use Rattle.run_cli.specs.declared.words.WordFault.{WordFault}
 use Rattle.run_cli.specs.declared.words.WordFault.TheVariants.{FileCount}
 use Rattle.run_cli.specs.Arguments.{Argument, arguments_of}
 use Rattle.run_cli.specs.Options.{is_number, is_scale, within, among, command_named, options_of, takes}
-use Rattle.run_cli.specs.Orders.{number_or, number_of, limits_of, source_from, NamedFiles, named_of, simulation, validation, grounding, order_with, with_source, is_help, order_from, judged, faults_from, files_of, first_name, second_name, value_of, is_given, whole_order, commanded, order_of}
+use Rattle.run_cli.specs.Orders.{number_or, number_of, limits_of, source_from, NamedFiles, named_of, simulation, validation, grounding, replaying, order_with, with_source, summary, sourceless, order_or, order_from, judged, faults_from, files_of, first_name, second_name, value_of, is_given, whole_order, commanded, order_of}
 use Rattle.run_cli.specs.Sources.{IsScaled}
 
 within-most : (low high n default : ℕ) → default ≤ high → unwrap_or (within low high n) default ≤ high
@@ -37,7 +37,7 @@ number-most low high default (Some text) le = by_test (is_number text) where
   by_test true = within-most low high (digits_value 10 text) default le
   by_test false = le
 
-limits-are : (arguments : List Argument) → AreLimits (limits_of arguments)
+pub limits-are : (arguments : List Argument) → AreLimits (limits_of arguments)
 limits-are arguments = record {
   actions = number-most 1 64 64 (value_of arguments Actions) (omega arith);
   horizon = number-most 1 (2 ^ 40) (2 ^ 40) (value_of arguments Horizon) (omega arith);
@@ -74,6 +74,8 @@ Orders (Ok (Solve source limits trace)) = AreLimits limits × IsScaled source
 Orders (Ok (Simulate source script limits trace)) = AreLimits limits × IsScaled source
 Orders (Ok (Validate source plan limits)) = IsScaled source
 Orders (Ok (Ground domain problem scale)) = IsScale scale
+Orders (Ok (Replay source trace limits)) = AreLimits limits × IsScaled source
+Orders (Ok (Summary seed)) = Unit {0}
 Orders (Ok Help) = Unit {0}
 Orders (Err fault) = Unit {0}
 
@@ -90,12 +92,18 @@ grounding-orders : (count : ℕ) (source : Source) → IsScaled source → Order
 grounding-orders count (GroundText name) is = tt
 grounding-orders count (Pddl domain problem scale) is = is
 
+replaying-orders : (count : ℕ) (trace : Option (List ℕ)) (source : Source) (limits : Limits) → AreLimits limits → IsScaled source → Orders (replaying count trace source limits)
+replaying-orders count None source limits are is = tt
+replaying-orders count (Some trace) source limits are is = (are, is)
+
 with-orders : (command : Command) (count : ℕ) (named : NamedFiles) (limits : Limits) (source : Source) → AreLimits limits → IsScaled source
     → Orders (order_with command count named limits source)
 with-orders commands.Solve count named limits source are is = (are, is)
 with-orders commands.Simulate count named limits source are is = simulation-orders count named.script source limits named.trace are is
 with-orders commands.Validate count named limits source are is = validation-orders count named.plan source limits is
 with-orders commands.Ground count named limits source are is = grounding-orders count source is
+with-orders commands.Replay count named limits source are is = replaying-orders count named.trace source limits are is
+with-orders commands.Summary count named limits source are is = tt
 with-orders commands.Help count named limits source are is = tt
 
 source-orders : (command : Command) (count : ℕ) (named : NamedFiles) (limits : Limits) → AreLimits limits → (first second : Option (List ℕ)) (scaled : Bool) (scale : ℕ) → IsScale scale
@@ -105,12 +113,33 @@ source-orders command count named limits are (Some name) None true scale is = tt
 source-orders command count named limits are (Some name) None false scale is = with-orders command count named limits (GroundText name) are tt
 source-orders command count named limits are (Some domain) (Some problem) scaled scale is = with-orders command count named limits (Pddl domain problem scale) are is
 
+summary-orders : (count : ℕ) (value : Option (List ℕ)) (seed : ℕ) → Orders (summary count value seed)
+summary-orders count None seed = tt
+summary-orders count (Some value) seed = tt
+
+-- an order that was found, if there is one
+abbrev OrdersIfFound : Option (Result Order WordFault) → Type 0
+OrdersIfFound None = Unit {0}
+OrdersIfFound (Some order) = Orders order
+
+sourceless-orders : (command : Command) (count : ℕ) (arguments : List Argument) → OrdersIfFound (sourceless command count arguments)
+sourceless-orders commands.Solve count arguments = tt
+sourceless-orders commands.Simulate count arguments = tt
+sourceless-orders commands.Validate count arguments = tt
+sourceless-orders commands.Ground count arguments = tt
+sourceless-orders commands.Replay count arguments = tt
+sourceless-orders commands.Summary count arguments = summary-orders count (value_of arguments Seed) (number_of arguments Seed)
+sourceless-orders commands.Help count arguments = tt
+
+or-orders : (found : Option (Result Order WordFault)) (other : Result Order WordFault) → OrdersIfFound found → Orders other → Orders (order_or found other)
+or-orders None other are is = is
+or-orders (Some order) other are is = are
+
 from-orders : (command : Command) (count : ℕ) (arguments : List Argument) → Orders (order_from command count arguments)
-from-orders command count arguments = by_help (is_help command) where
-  by_help : (b : Bool) → Orders (cond b (Ok Help) (with_source (order_with command count (named_of arguments) (limits_of arguments))
-      (source_from count (first_name (files_of arguments)) (second_name (files_of arguments)) (is_given arguments Scale) (number_of arguments Scale))))
-  by_help true = tt
-  by_help false = source-orders command count (named_of arguments) (limits_of arguments) (limits-are arguments)
+from-orders command count arguments = or-orders (sourceless command count arguments) _ (sourceless-orders command count arguments) found where
+  found : Orders (with_source (order_with command count (named_of arguments) (limits_of arguments))
+      (source_from count (first_name (files_of arguments)) (second_name (files_of arguments)) (is_given arguments Scale) (number_of arguments Scale)))
+  found = source-orders command count (named_of arguments) (limits_of arguments) (limits-are arguments)
       (first_name (files_of arguments)) (second_name (files_of arguments)) (is_given arguments Scale) (number_of arguments Scale) (scale-is arguments)
 
 judged-orders : (order : Result Order WordFault) (faults : List WordFault) → Orders order → Orders (judged order faults)
@@ -146,3 +175,6 @@ validate-range words source plan limits is = subst Orders is (orders words)
 
 pub ground-range : (words : List (List ℕ)) (domain problem : List ℕ) (scale : ℕ) → order_of words ≡ Ok (Ground domain problem scale) → IsScale scale
 ground-range words domain problem scale is = subst Orders is (orders words)
+
+pub replay-range : (words : List (List ℕ)) (source : Source) (trace : List ℕ) (limits : Limits) → order_of words ≡ Ok (Replay source trace limits) → AreLimits limits × IsScaled source
+replay-range words source trace limits is = subst Orders is (orders words)

@@ -10,6 +10,7 @@ use Rattle.tp_spec.specs.declared.event.Event.TheVariants.{Tick, Drop, Dispatch,
 use Rattle.tp_spec.specs.declared.plan.Limits.{Limits}
 use Rattle.tp_spec.specs.declared.plan.Timed.{Timed}
 use Rattle.tp_spec.specs.declared.problem.Problem.{Problem}
+use Rattle.serial_runs.specs.OneWorker.{IsWorked}
 use Rattle.tp_spec.specs.Following.{IsBusy}
 use Rattle.tp_spec.specs.Machine.{IsRun, IsWholeRun}
 use Rattle.tp_spec.specs.Texts.{command_of}
@@ -114,7 +115,7 @@ module _ {C : Type 0} (count last rate : C → ℕ) (given : C → Option (List 
         (whole : IsWholeRun new.problem new.limits h) (rated : rate z ≡ new.problem.scale) (begun-kept : begun z ≡ begun new.opened) (given-kept : given z ≡ given new.opened)
         (told : IsTold (count new.opened) (count new.clock) (last new.opened) (last new.clock) (given new.opened) new.history)
         (sent : Result Unit SendFault) (s t : SinkView)
-        (ended : Ends new.history sent) (is_busy : HasResult new.history → IsBusy new.limits 1 new.history)
+        (ended : Ends new.history sent) (is_busy : HasResult new.history → IsWorked new.limits new.history)
         (put : GivesCommands p new.limits new.history s t sent)
         (said : flat_map (command_of p) h ≡ commands p (committed l h))
         (growth : CommitsGrow p l) where
@@ -134,7 +135,7 @@ module _ {C : Type 0} (count last rate : C → ℕ) (given : C → Option (List 
       ended-of = subst (λ k. Ends k sent) (sym history) ended
 
       busy-of : HasResult h → IsBusy l 1 h
-      busy-of result = subst (λ m. IsBusy m 1 h) limits-kept (subst (IsBusy new.limits 1) (sym history) (is_busy (subst HasResult history result)))
+      busy-of result = subst (λ m. IsBusy m 1 h) limits-kept (subst (IsBusy new.limits 1) (sym history) (is_busy (subst HasResult history result)).busy)
 
       put-of : GivesCommands p l h s t sent
       put-of = subst (λ m. GivesCommands p m h s t sent) limits-kept (subst (λ k. GivesCommands p new.limits k s t sent) (sym history) put)

@@ -15,13 +15,14 @@ use Rattle.run_cli.specs.Printing.{Prints, PrintsNothing}
 use Rattle.run_cli.specs.Sources.{source_files, HoldsProblem, HasNoProblem}
 use Rattle.run_cli.specs.Simulating.{script_files, EndsUnplayed}
 use Rattle.run_cli.specs.Solving.{EndsBefore}
-use Rattle.run_cli.specs.Statuses.{EndsLocal, EndsRun, EndsValidate, EndsGround}
+use Rattle.run_cli.specs.Statuses.{EndsLocal, EndsRun, EndsSummarized, EndsValidate, EndsReplay, EndsGround}
 use Rattle.run_cli.specs.Runs.{EndingView, IsIdle}
 use Rattle.run_cli.specs.Stopping.{file_of}
+use Rattle.run_cli.specs.Replaying.{IsAnswer as IsTraceAnswered}
 use Rattle.run_cli.specs.Validating.{IsAnswer}
 use Rattle.run_cli.specs.declared.loading.Role.TheVariants as roles
 use Rattle.run_cli.specs.declared.words.Order.{Order}
-use Rattle.run_cli.specs.declared.words.Order.TheVariants.{Solve, Simulate, Validate, Ground, Help}
+use Rattle.run_cli.specs.declared.words.Order.TheVariants.{Solve, Simulate, Validate, Ground, Replay, Summary, Help}
 use Rattle.run_cli.specs.declared.words.Source.{Source}
 use Rattle.run_cli.specs.declared.words.Source.TheVariants.{GroundText, Pddl}
 use Rattle.run_cli.specs.declared.words.WordFault.{WordFault}
@@ -59,6 +60,19 @@ answer-put limits source plan before after wanted line status answer (inl printe
 answer-put limits source plan before after wanted line status answer (inr nothing) =
     inr (record { asked = answer-front limits source (file_of roles.PlanFile plan) before.files after.files wanted line answer; printed = nothing })
 
+trace-front : (limits : Limits) (source : Source) (trace : Wanted) (before after : FilesView) (status : ℕ) (line : List ℕ) → IsTraceAnswered limits source trace before after status line
+    → AsksFront (source_files source ++ trace ∷ []) before after
+trace-front limits source trace before after status line (inl w) = unread-front source (trace ∷ []) before after status line w
+trace-front limits source trace before after status line (inr w) = all-asked w.holds.loaded.asked
+
+-- the line of what a trace gives is put
+pub replay-put : (limits : Limits) (source : Source) (trace : List ℕ) (before after : Outside) (wanted : ℕ) (line : List ℕ) (status : ℕ)
+    → IsTraceAnswered limits source (file_of roles.Trace trace) before.files after.files wanted line
+    → Prints line wanted before.sink after.sink status ⊎ PrintsNothing before.sink after.sink status → EndsReplay limits source trace before after status
+replay-put limits source trace before after wanted line status answer (inl printed) = inl (record { wanted = wanted; line = line; answer = answer; printed = printed })
+replay-put limits source trace before after wanted line status answer (inr nothing) =
+    inr (record { asked = trace-front limits source (file_of roles.Trace trace) before.files after.files wanted line answer; printed = nothing })
+
 -- the ground text of a problem is put
 pub ground-put : (source : Source) (p : Problem) (before after : Outside) (status : ℕ) → HoldsProblem source [] p [] before.files after.files
     → Prints (problem_text p) 0 before.sink after.sink status ⊎ PrintsNothing before.sink after.sink status → EndsGround source before after status
@@ -77,6 +91,12 @@ module _ (before after : Outside) (unasked : after.files ≡ before.files) where
 
   memory-validate : (limits : Limits) (source : Source) (plan : List ℕ) (status : ℕ) → PrintsNothing before.sink after.sink status → EndsValidate limits source plan before after status
   memory-validate limits source plan status nothing = inr (record { asked = none-asked (source_files source ++ file_of roles.PlanFile plan ∷ []) unasked; printed = nothing })
+
+  memory-replay : (limits : Limits) (source : Source) (trace : List ℕ) (status : ℕ) → PrintsNothing before.sink after.sink status → EndsReplay limits source trace before after status
+  memory-replay limits source trace status nothing = inr (record { asked = none-asked (source_files source ++ file_of roles.Trace trace ∷ []) unasked; printed = nothing })
+
+  memory-summary : (seed status : ℕ) (history : List Event) → PrintsNothing before.sink after.sink status → history ≡ [] → EndsSummarized seed before after status history
+  memory-summary seed status history nothing none = record { unasked = unasked; ends = inr (record { none = none; nothing = nothing }) }
 
   memory-script : (source : Source) (script : List ℕ) (status : ℕ) → PrintsNothing before.sink after.sink status → EndsUnplayed source script before after status
   memory-script source script status nothing = inr (record { asked = none-asked (source_files source ++ script_files script) unasked; printed = nothing })
@@ -107,6 +127,8 @@ module _ (before after : Outside) (unasked : after.files ≡ before.files) where
   memory-local (Ok (Simulate source script limits trace)) status history nothing none = memory-simulate source script limits trace status history nothing none
   memory-local (Ok (Validate source plan limits)) status history nothing none = memory-validate limits source plan status nothing
   memory-local (Ok (Ground domain problem scale)) status history nothing none = inr (memory-before (Pddl domain problem scale) [] status nothing)
+  memory-local (Ok (Replay source trace limits)) status history nothing none = memory-replay limits source trace status nothing
+  memory-local (Ok (Summary seed)) status history nothing none = memory-summary seed status history nothing none
   memory-local (Ok Help) status history nothing none = record { unasked = unasked; ends = inr nothing }
 
   memory-run : (wanted : Result Order WordFault) (ending : EndingView) → PrintsNothing before.sink after.sink ending.status → IsIdle ending → EndsRun wanted before after ending
@@ -115,6 +137,8 @@ module _ (before after : Outside) (unasked : after.files ≡ before.files) where
   memory-run (Ok (Simulate source script limits trace)) ending nothing idle = (memory-simulate source script limits trace ending.status ending.history nothing idle.none, idle.same)
   memory-run (Ok (Validate source plan limits)) ending nothing idle = (memory-validate limits source plan ending.status nothing, idle)
   memory-run (Ok (Ground domain problem scale)) ending nothing idle = (inr (memory-before (Pddl domain problem scale) [] ending.status nothing), idle)
+  memory-run (Ok (Replay source trace limits)) ending nothing idle = (memory-replay limits source trace ending.status nothing, idle)
+  memory-run (Ok (Summary seed)) ending nothing idle = (memory-summary seed ending.status ending.history nothing idle.none, idle.same)
   memory-run (Ok Help) ending nothing idle = (record { unasked = unasked; ends = inr nothing }, idle)
 
 refused-words : (fault : WordFault) (wanted : Result Order WordFault) → Answers (Err fault) wanted → is_memory fault ≡ false → wanted ≡ Err fault

@@ -5,12 +5,14 @@ pub mod Outcomes
 pub mod Grounds
 pub mod Help
 pub mod Printing
+pub mod Replaying
 pub mod Runs
 pub mod Sources
 pub mod Solving
 pub mod Simulating
 pub mod Statuses
 pub mod Stopping
+pub mod Summing
 pub mod Tracing
 pub mod Validating
 pub mod VerdictTexts

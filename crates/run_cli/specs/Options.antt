@@ -5,20 +5,22 @@ use Rattle.std.specs.Char.{is_ascii_digit}
 use Rattle.std.specs.List.{list_all}
 use Rattle.std.specs.Str.Parse.{digits_value}
 use Rattle.run_cli.specs.declared.options.Command.{Command}
-use Rattle.run_cli.specs.declared.options.Command.TheVariants.{Solve, Simulate, Validate, Ground, Help}
+use Rattle.run_cli.specs.declared.options.Command.TheVariants.{Solve, Simulate, Validate, Ground, Replay, Summary, Help}
 use Rattle.run_cli.specs.declared.options.Numbers.{Numbers}
 use Rattle.run_cli.specs.declared.options.Setting.{Setting}
-use Rattle.run_cli.specs.declared.options.Setting.TheVariants.{Lead, Actions, Horizon, Nodes, Scale, Script, PlanFile, TraceFile}
+use Rattle.run_cli.specs.declared.options.Setting.TheVariants.{Lead, Actions, Horizon, Nodes, Scale, Script, PlanFile, TraceFile, Seed}
 
 -- all commands
 abbrev pub all_commands : List Command
-all_commands = Solve ∷ Simulate ∷ Validate ∷ Ground ∷ Help ∷ []
+all_commands = Solve ∷ Simulate ∷ Validate ∷ Ground ∷ Replay ∷ Summary ∷ Help ∷ []
 
 abbrev pub command_name : Command → List ℕ
 command_name Solve = codes "solve"
 command_name Simulate = codes "simulate"
 command_name Validate = codes "validate"
 command_name Ground = codes "ground"
+command_name Replay = codes "replay"
+command_name Summary = codes "summary"
 command_name Help = codes "help"
 
 -- the least and the greatest number of files of a command
@@ -27,6 +29,8 @@ file_bounds Solve = (1, 2)
 file_bounds Simulate = (1, 2)
 file_bounds Validate = (1, 2)
 file_bounds Ground = (2, 2)
+file_bounds Replay = (1, 2)
+file_bounds Summary = (0, 0)
 file_bounds Help = (0, 0)
 
 -- the options of a command
@@ -36,6 +40,8 @@ options_of Simulate =
     Script ∷ Lead ∷ Actions ∷ Horizon ∷ Nodes ∷ Scale ∷ TraceFile ∷ []
 options_of Validate = PlanFile ∷ Actions ∷ Horizon ∷ Scale ∷ []
 options_of Ground = Scale ∷ []
+options_of Replay = TraceFile ∷ Lead ∷ Actions ∷ Horizon ∷ Nodes ∷ Scale ∷ []
+options_of Summary = Seed ∷ []
 options_of Help = []
 
 -- the command of this name among some
@@ -74,6 +80,7 @@ row_of Scale = record {
 row_of Script = worded (codes "script")
 row_of PlanFile = worded (codes "plan")
 row_of TraceFile = worded (codes "trace")
+row_of Seed = numbered (codes "seed") 0 9999999999999 0
 
 abbrev pub name_of : Setting → List ℕ
 name_of s = (row_of s).name

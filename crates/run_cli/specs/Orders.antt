@@ -6,10 +6,10 @@ use Rattle.tp_spec.specs.declared.plan.Limits.{Limits}
 use Rattle.run_cli.specs.declared.options.Command.{Command}
 use Rattle.run_cli.specs.declared.options.Command.TheVariants as commands
 use Rattle.run_cli.specs.declared.options.Setting.{Setting}
-use Rattle.run_cli.specs.declared.options.Setting.TheVariants.{Lead, Actions, Horizon, Nodes, Scale, Script, PlanFile, TraceFile}
+use Rattle.run_cli.specs.declared.options.Setting.TheVariants.{Lead, Actions, Horizon, Nodes, Scale, Script, PlanFile, TraceFile, Seed}
 use Rattle.run_cli.specs.declared.words.Named.{Named}
 use Rattle.run_cli.specs.declared.words.Order.{Order}
-use Rattle.run_cli.specs.declared.words.Order.TheVariants.{Solve, Simulate, Validate, Ground, Help}
+use Rattle.run_cli.specs.declared.words.Order.TheVariants.{Solve, Simulate, Validate, Ground, Replay, Summary, Help}
 use Rattle.run_cli.specs.declared.words.Source.{Source}
 use Rattle.run_cli.specs.declared.words.Source.TheVariants.{GroundText, Pddl}
 use Rattle.run_cli.specs.declared.words.WordFault.{WordFault}
@@ -126,8 +126,8 @@ source_from count (Some name) None true scale = Err (ScaleOfGround count)
 source_from count (Some name) None false scale = Ok (GroundText name)
 source_from count (Some domain) (Some problem) scaled scale = Ok (Pddl domain problem scale)
 
--- The files that options name, each where it is given: a script, a plan file, and the file in which
--- a run is kept.
+-- The files that options name, each where it is given: a script, a plan file, and the file of a
+-- trace.
 pub record NamedFiles : Type 0 where
   pub script : Option (List ℕ)
   pub plan : Option (List ℕ)
@@ -160,6 +160,11 @@ abbrev pub validation : ℕ → Option (List ℕ) → Source → Limits → Resu
 validation count None source limits = Err (Missing count)
 validation count (Some plan) source limits = Ok (Validate source plan limits)
 
+-- to judge a trace, which is needed
+abbrev pub replaying : ℕ → Option (List ℕ) → Source → Limits → Result Order WordFault
+replaying count None source limits = Err (Missing count)
+replaying count (Some trace) source limits = Ok (Replay source trace limits)
+
 -- to ground a domain and a problem, which both are needed
 abbrev pub grounding : ℕ → Source → Result Order WordFault
 grounding count (GroundText name) = Err (FileCount count)
@@ -173,6 +178,9 @@ order_with commands.Simulate count named limits source =
 order_with commands.Validate count named limits source =
     validation count named.plan source limits
 order_with commands.Ground count named limits source = grounding count source
+order_with commands.Replay count named limits source =
+    replaying count named.trace source limits
+order_with commands.Summary count named limits source = Err (FileCount count)
 order_with commands.Help count named limits source = Ok Help
 
 -- an order with the source that was named, or what is wrong with it
@@ -181,18 +189,31 @@ abbrev pub with_source : (Source → Result Order WordFault) → Result Source W
 with_source order (Ok source) = order source
 with_source order (Err fault) = Err fault
 
--- the command that has no source
-abbrev pub is_help : Command → Bool
-is_help commands.Help = true
-is_help _ = false
+-- to search for a plan of the problem that a seed draws, which is needed
+abbrev pub summary : ℕ → Option (List ℕ) → ℕ → Result Order WordFault
+summary count None seed = Err (Missing count)
+summary count (Some value) seed = Ok (Summary seed)
+
+-- the order of a command that has no source; none where the command has one
+abbrev pub sourceless : Command → ℕ → List Argument → Option (Result Order WordFault)
+sourceless commands.Help count arguments = Some (Ok Help)
+sourceless commands.Summary count arguments =
+    Some (summary count (value_of arguments Seed) (number_of arguments Seed))
+sourceless _ count arguments = None
+
+-- an order that was found, else another one
+abbrev pub order_or : Option (Result Order WordFault) → Result Order WordFault
+    → Result Order WordFault
+order_or (Some order) other = order
+order_or None other = other
 
 -- the order of a command with its files, those that options name, and its scale
 abbrev pub order_from : Command → ℕ → List Argument → Result Order WordFault
 order_from command count arguments =
-    if is_help command then Ok Help
-    else with_source (order_with command count (named_of arguments) (limits_of arguments))
+    order_or (sourceless command count arguments)
+    (with_source (order_with command count (named_of arguments) (limits_of arguments))
     (source_from count (first_name (files_of arguments)) (second_name (files_of arguments))
-    (is_given arguments Scale) (number_of arguments Scale))
+    (is_given arguments Scale) (number_of arguments Scale)))
 
 -- the order of all arguments, where the command takes so many files
 abbrev pub whole_order : Command → ℕ → List Argument → Result Order WordFault
@@ -236,6 +257,8 @@ is_solve (Ok (Solve source limits trace)) = true
 is_solve (Ok (Simulate source script limits trace)) = false
 is_solve (Ok (Validate source plan limits)) = false
 is_solve (Ok (Ground domain problem scale)) = false
+is_solve (Ok (Replay source trace limits)) = false
+is_solve (Ok (Summary seed)) = false
 is_solve (Ok Help) = false
 is_solve (Err fault) = false
 
@@ -245,8 +268,21 @@ is_simulate (Ok (Solve source limits trace)) = false
 is_simulate (Ok (Simulate source script limits trace)) = true
 is_simulate (Ok (Validate source plan limits)) = false
 is_simulate (Ok (Ground domain problem scale)) = false
+is_simulate (Ok (Replay source trace limits)) = false
+is_simulate (Ok (Summary seed)) = false
 is_simulate (Ok Help) = false
 is_simulate (Err fault) = false
+
+-- whether the words order `summary`
+abbrev pub is_summary : Result Order WordFault → Bool
+is_summary (Ok (Solve source limits trace)) = false
+is_summary (Ok (Simulate source script limits trace)) = false
+is_summary (Ok (Validate source plan limits)) = false
+is_summary (Ok (Ground domain problem scale)) = false
+is_summary (Ok (Replay source trace limits)) = false
+is_summary (Ok (Summary seed)) = true
+is_summary (Ok Help) = false
+is_summary (Err fault) = false
 
 -- the file in which a run is kept, where the words name one
 abbrev pub trace_of : Result Order WordFault → Option (List ℕ)
@@ -254,6 +290,8 @@ trace_of (Ok (Solve source limits trace)) = trace
 trace_of (Ok (Simulate source script limits trace)) = trace
 trace_of (Ok (Validate source plan limits)) = None
 trace_of (Ok (Ground domain problem scale)) = None
+trace_of (Ok (Replay source trace limits)) = None
+trace_of (Ok (Summary seed)) = None
 trace_of (Ok Help) = None
 trace_of (Err fault) = None
 

@@ -3,7 +3,7 @@ use Rattle.std.specs.Prelude.{◌≡◌, ◌⊎◌, ℕ, List, ◌++◌, codes, 
 use Rattle.tp_world.specs.Contents.{FilesView}
 use Rattle.tp_world.specs.Loads.{Wanted, AsksFront, IsTooLongAt, FailsAt}
 use Rattle.run_cli.specs.declared.loading.Role.{Role}
-use Rattle.run_cli.specs.declared.loading.Role.TheVariants.{Domain, Problem, GroundText, Script, PlanFile}
+use Rattle.run_cli.specs.declared.loading.Role.TheVariants.{Domain, Problem, GroundText, Script, PlanFile, Trace}
 use Rattle.run_cli.specs.declared.loading.Stop.{Stop}
 use Rattle.run_cli.specs.declared.loading.Stop.TheVariants.{Said, NoMemory}
 
@@ -13,10 +13,16 @@ role_name Problem = codes "problem"
 role_name GroundText = codes "ground"
 role_name Script = codes "script"
 role_name PlanFile = codes "plan"
+role_name Trace = codes "trace"
 
--- a file of this role, of at most 1,048,576 bytes
+-- the most bytes of a file of a role
+abbrev pub most_bytes : Role → ℕ
+most_bytes Trace = 67108864
+most_bytes _ = 1048576
+
+-- a file of this role, of at most as many bytes as the role allows
 abbrev pub file_of : Role → List ℕ → Wanted
-file_of role name = record { role = role_name role; name = name; most = 1048576 }
+file_of role name = record { role = role_name role; name = name; most = most_bytes role }
 
 abbrev pub too_long_line : Wanted → List ℕ
 too_long_line file =

@@ -1,5 +1,5 @@
 ghost use Rattle.std.specs.Prelude.{◌≡◌, ◌<◌, ◌^◌, ◌⊎◌, [], map, length, true, false, string_bytes};
-ghost use Rattle.run_cli.specs.Orders.{order_of, fault_text, is_solve, is_simulate, trace_of, is_memory as is_memory_of};
+ghost use Rattle.run_cli.specs.Orders.{order_of, fault_text, is_solve, is_simulate, is_summary, trace_of, is_memory as is_memory_of};
 ghost use Rattle.run_cli.specs.Help.{help_text};
 ghost use Rattle.run_cli.specs.Printing.{Prints, PrintsNothing};
 ghost use Rattle.run_cli.specs.Statuses.{EndsLocal, EndsRun};
@@ -9,7 +9,9 @@ use crate::answer::Answer;
 use crate::ending::{Ending, say, unsearched};
 use crate::grounding::ground_files;
 use crate::help::help_text;
+use crate::replaying::replay_files;
 use crate::solving::leave_file;
+use crate::summarizing::summarize;
 use crate::tracing::{simulate_kept, solve_kept};
 use crate::validating::judge_files;
 use crate::words::{Order, Source, WordFault, fault_line, read_words};
@@ -22,11 +24,13 @@ use tp_world::{Clock, Files, Gate, Sink};
 /// searches for a plan with one worker, and prints a plan, `exhausted` or `limit`; `simulate` runs
 /// the steps of a script; `validate` prints whether the plan of a plan file is valid, and else the
 /// first of its parts that is broken; `ground` prints the ground text of a domain and a problem;
-/// `help` prints a line for each command. The status is 0 where a plan is published or valid, or a
-/// text is printed, 1 where the search is exhausted or the plan is not valid, 2 at the limit of
-/// ids, 3 where the words are refused, 4 where a file is, 5 where one can't be loaded, 6 where the
-/// output fails, 7 where memory is refused, and 8 where the script ends before the search. Only
-/// `solve` begins and reads the clock, and only `solve` and `simulate` have a history.
+/// `replay` prints how many events a trace has, or the first that breaks a rule; `help` prints a
+/// line for each command. The status is 0 where a plan is published or valid, no rule is broken, or
+/// a text is printed, 1 where the search is exhausted, the plan is not valid, or a rule is broken,
+/// 2 at the limit of ids, 3 where the words are refused, 4 where a file is, 5 where one can't be
+/// loaded, 6 where the output fails, 7 where memory is refused, and 8 where the script ends before
+/// the search. Only `solve` begins and reads the clock, and only `solve` and `simulate` have a
+/// history.
 pub fn run<F: Files, O: Sink + Send, C: Clock + Send, G: Gate>(
     alloc: Global,
     words: &[String],
@@ -109,6 +113,14 @@ pub fn run<F: Files, O: Sink + Send, C: Clock + Send, G: Gate>(
             };
             ground_files(alloc, &source, files, out, clock)
         }
+        Ok(
+            Order::Replay {
+                source,
+                trace,
+                limits,
+            },
+        ) => replay_files(alloc, &source, trace.as_str(), &limits, files, out, clock),
+        Ok(Order::Summary { seed }) => summarize(alloc, seed, out, clock),
         Ok(Order::Help) => print_help(alloc, out, clock),
         Err(fault) => refuse_words(alloc, fault, out, clock),
     }
@@ -135,6 +147,7 @@ pub fn run_local<F: Files, O: Sink, C: Clock>(
     ensures unchanged { is_simulate (order_of (map string_bytes words.now)) ≡ false
         → (F.view files.new).contents ≡ (F.view files.old).contents }
     ensures history { is_simulate (order_of (map string_bytes words.now)) ≡ false
+        → is_summary (order_of (map string_bytes words.now)) ≡ false
         → result.history.items ≡ [] }
     ensures clock { result.clock ≡ clock }
 {
@@ -178,6 +191,14 @@ pub fn run_local<F: Files, O: Sink, C: Clock>(
             };
             ground_files(alloc, &source, files, out, clock)
         }
+        Ok(
+            Order::Replay {
+                source,
+                trace,
+                limits,
+            },
+        ) => replay_files(alloc, &source, trace.as_str(), &limits, files, out, clock),
+        Ok(Order::Summary { seed }) => summarize(alloc, seed, out, clock),
         Ok(Order::Help) => print_help(alloc, out, clock),
         Err(fault) => refuse_words(alloc, fault, out, clock),
     }

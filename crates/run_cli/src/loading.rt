@@ -2,7 +2,7 @@ ghost use Rattle.std.specs.Prelude.{◌≡◌, ◌≤◌, [], ◌∷◌, ◌++�
 ghost use Rattle.tp_world.specs.Loads.{AreLoaded};
 ghost use Rattle.run_cli.specs.Sources.{IsScaled, AreTextsOf, source_files, texts_of, HoldsProblem, IsSourceStop};
 ghost use Rattle.run_cli.specs.declared.loading.Role.TheVariants as roles;
-ghost use Rattle.run_cli.specs.Stopping.{IsStop, role_name, file_of, failed_line, too_long_line};
+ghost use Rattle.run_cli.specs.Stopping.{IsStop, role_name, most_bytes, file_of, failed_line, too_long_line};
 
 use crate::answer::Answer;
 use crate::reader::read_source;
@@ -12,9 +12,6 @@ use std::alloc::Global;
 use tp_spec::{NoMemory, Problem};
 use tp_world::{Files, LoadFault};
 
-/// The most bytes of a file.
-const MOST_BYTES: u64 = 1_048_576;
-
 /// What a file is to a command.
 #[derive(Clone, Copy, Debug, PartialEq, Eq)]
 pub enum Role {
@@ -23,6 +20,7 @@ pub enum Role {
     GroundText,
     Script,
     PlanFile,
+    Trace,
 }
 
 /// What is loaded of the files of a source: the text of a ground problem, or those of a domain and
@@ -67,6 +65,17 @@ fn role_name(role: Role) -> &'static [u8]
         Role::GroundText => b"ground",
         Role::Script => b"script",
         Role::PlanFile => b"plan",
+        Role::Trace => b"trace",
+    }
+}
+
+/// The most bytes of a file of a role.
+fn most_bytes(role: Role) -> u64
+    ensures { result ≡ most_bytes role }
+{
+    match role {
+        Role::Trace => 67_108_864,
+        _ => 1_048_576,
     }
 }
 
@@ -89,7 +98,7 @@ fn too_long_line(alloc: Global, role: Role) -> Result<Vec<u8>, NoMemory>
     push_bytes(&mut text, b"refused ")?;
     push_bytes(&mut text, role_name(role))?;
     push_bytes(&mut text, b" ")?;
-    push_number(&mut text, MOST_BYTES)?;
+    push_number(&mut text, most_bytes(role))?;
     push_bytes(&mut text, b" FileTooLong\n")?;
     Ok(text)
 }
@@ -100,10 +109,10 @@ fn load<F: Files>(alloc: Global, role: Role, name: &str, files: &mut F) -> Resul
         (F.view files.old) (F.view files.new)) }
     ensures stop { IfErr result (IsStop (file_of role name.now ∷ []) (F.view files.old)
         (F.view files.new)) }
-    ensures short { IfOk result (λ text. length text.items ≤ 1048576) }
+    ensures short { IfOk result (λ text. length text.items ≤ most_bytes role) }
     ensures contents { (F.view files.new).contents ≡ (F.view files.old).contents }
 {
-    match files.load(alloc, name, MOST_BYTES) {
+    match files.load(alloc, name, most_bytes(role)) {
         Ok(text) => Ok(text),
         Err(LoadFault::Failed) => Err(Stop::Said {
             answer: Answer {
@@ -191,8 +200,9 @@ pub fn load_problem<F: Files>(
     read_source(alloc, source, &texts)
 }
 
-/// Loads the files of a source and a further file, each of at most 1,048,576 bytes, and then reads
-/// those of the source: the problem that they are of, with the bytes of the further file.
+/// Loads the files of a source and a further file, each of at most as many bytes as its role
+/// allows, and then reads those of the source: the problem that they are of, with the bytes of the
+/// further file.
 pub fn load_problem_and<F: Files>(
     alloc: Global,
     source: &Source,
@@ -203,7 +213,7 @@ pub fn load_problem_and<F: Files>(
     requires { IsScaled source.now }
     ensures holds { IfOk result (λ read. HoldsProblem source.now (file_of role name.now ∷ [])
         read.0 (read.1.items ∷ []) (F.view files.old) (F.view files.new)) }
-    ensures short { IfOk result (λ read. length read.1.items ≤ 1048576) }
+    ensures short { IfOk result (λ read. length read.1.items ≤ most_bytes role) }
     ensures stop { IfErr result (IsSourceStop source.now (file_of role name.now ∷ [])
         (F.view files.old) (F.view files.new)) }
     ensures contents { (F.view files.new).contents ≡ (F.view files.old).contents }

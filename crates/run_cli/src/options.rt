@@ -14,6 +14,10 @@ pub enum Command {
     Validate,
     /// Prints the ground text of a domain and a problem.
     Ground,
+    /// Judges the trace of a run.
+    Replay,
+    /// Searches for a plan of a problem that a seed draws.
+    Summary,
     /// Tells the commands, with their files and options.
     Help,
 }
@@ -35,8 +39,10 @@ pub enum Setting {
     Script,
     /// The plan file that is to be judged.
     PlanFile,
-    /// The file in which the decisions of a run are kept.
+    /// The file in which the decisions of a run are kept, or from which they are read.
     TraceFile,
+    /// The number that a problem is drawn from.
+    Seed,
 }
 
 /// The numbers that an option takes: from `least` to `most`, only those of a scale (1, 10, 100 and
@@ -65,6 +71,8 @@ pub fn all_commands() -> &'static [Command]
         Command::Simulate,
         Command::Validate,
         Command::Ground,
+        Command::Replay,
+        Command::Summary,
         Command::Help,
     ]
 }
@@ -78,6 +86,8 @@ pub fn command_name(command: Command) -> &'static [u8]
         Command::Simulate => b"simulate",
         Command::Validate => b"validate",
         Command::Ground => b"ground",
+        Command::Replay => b"replay",
+        Command::Summary => b"summary",
         Command::Help => b"help",
     }
 }
@@ -91,6 +101,8 @@ pub fn file_bounds(command: Command) -> (u64, u64)
         Command::Simulate => (1, 2),
         Command::Validate => (1, 2),
         Command::Ground => (2, 2),
+        Command::Replay => (1, 2),
+        Command::Summary => (0, 0),
         Command::Help => (0, 0),
     }
 }
@@ -144,6 +156,15 @@ pub fn options_of(command: Command) -> &'static [Setting]
             Setting::Scale,
         ],
         Command::Ground => &[Setting::Scale],
+        Command::Replay => &[
+            Setting::TraceFile,
+            Setting::Lead,
+            Setting::Actions,
+            Setting::Horizon,
+            Setting::Nodes,
+            Setting::Scale,
+        ],
+        Command::Summary => &[Setting::Seed],
         Command::Help => &[],
     }
 }
@@ -199,6 +220,7 @@ fn row_of(setting: Setting) -> Row
         Setting::Script => worded(b"script"),
         Setting::PlanFile => worded(b"plan"),
         Setting::TraceFile => worded(b"trace"),
+        Setting::Seed => numbered(b"seed", 0, 9_999_999_999_999, 0),
     }
 }
 

@@ -9,7 +9,7 @@ use std::alloc::Global;
 use tp_spec::{Item, LineFault, NoMemory};
 
 /// A line of words and a number, with what follows it.
-fn numbered(alloc: Global, words: &[u8], number: u64, end: &[u8]) -> Result<Vec<u8>, NoMemory>
+pub fn numbered(alloc: Global, words: &[u8], number: u64, end: &[u8]) -> Result<Vec<u8>, NoMemory>
     ensures { IfOk result (λ t. t.items ≡ words.now ++ decimal number ++ end.now) }
 {
     let mut text = Vec::new(alloc);

@@ -1,11 +1,12 @@
 ghost use Rattle.std.specs.Prelude.{◌≡◌, ◌≤◌, ◌<◌, ◌^◌, ◌++◌, ◌∷◌, [], map, length, Ok, IfOk, IfErr, MatchOption, string_bytes};
 ghost use Rattle.std.specs.Option.{option_map};
+ghost use Rattle.word_network.specs.Conditions.{AreLimits};
 ghost use Rattle.run_cli.specs.Options.{numbers_of};
 ghost use Rattle.run_cli.specs.Arguments.{view_of};
 ghost use Rattle.run_cli.specs.declared.words.WordFault.TheVariants.{NoValue as no_value};
 ghost use Rattle.run_cli.specs.declared.words.WordFault.TheVariants.{NoMemory as no_memory};
 ghost use Rattle.run_cli.specs.declared.words.Order.TheVariants.{Solve as search_of};
-ghost use Rattle.run_cli.specs.Orders.{gives, is_given, twice_faults, range_faults, argument_faults, faults_from, files_of, first_name, second_name, value_of, number_or, number_of, most_of, limits_of, source_from, named_view, named_of, simulation, validation, grounding, order_with, is_help, order_from, whole_order, ordered, order_of, Answers, first_of, named_fault, fault_text};
+ghost use Rattle.run_cli.specs.Orders.{gives, is_given, twice_faults, range_faults, argument_faults, faults_from, files_of, first_name, second_name, value_of, number_or, number_of, most_of, limits_of, source_from, named_view, named_of, simulation, validation, grounding, replaying, order_with, summary, sourceless, order_from, whole_order, ordered, order_of, Answers, first_of, named_fault, fault_text};
 
 use crate::arguments::{Argument, arguments_of};
 use crate::options::{
@@ -59,6 +60,16 @@ pub enum Order {
         domain: Name,
         problem: Name,
         scale: u32,
+    },
+    /// To judge the trace of a run on a problem, with the limits of that run.
+    Replay {
+        source: Source,
+        trace: Name,
+        limits: Limits,
+    },
+    /// To search for a plan of the problem that this number draws, and to tell its sizes.
+    Summary {
+        seed: u64,
     },
     /// To tell the commands.
     Help,
@@ -307,6 +318,14 @@ fn limits_of(arguments: &[Argument<'_>]) -> Limits
     }
 }
 
+/// The limits of a run where no option gives one.
+pub fn default_limits() -> Limits
+    ensures is { result ≡ limits_of [] }
+    ensures limited { AreLimits result }
+{
+    limits_of(&[])
+}
+
 /// How many files are named.
 fn file_count(arguments: &[Argument<'_>]) -> usize
     ensures { result ≡ length (files_of (map view_of arguments.now)) }
@@ -444,6 +463,27 @@ fn grounding(count: u32, source: Source) -> Result<Order, WordFault>
     }
 }
 
+/// To judge a trace, which is needed.
+fn replaying(
+    alloc: Global,
+    count: u32,
+    trace: Option<&str>,
+    source: Source,
+    limits: Limits,
+) -> Result<Order, WordFault>
+    ensures { Answers result (replaying count (option_map (λ t. t.now) trace.entry) source
+        limits) }
+{
+    match trace {
+        Some(trace) => Ok(Order::Replay {
+            source,
+            trace: Name::of(alloc, trace)?,
+            limits,
+        }),
+        None => Err(WordFault::Missing { at: count }),
+    }
+}
+
 /// The order of a command that has a source, with the files that options name.
 fn order_with(
     alloc: Global,
@@ -460,6 +500,8 @@ fn order_with(
         Command::Simulate => { simulation(alloc, count, named.script, source, limits, named.trace) }
         Command::Validate => validation(alloc, count, named.plan, source, limits),
         Command::Ground => grounding(count, source),
+        Command::Replay => replaying(alloc, count, named.trace, source, limits),
+        Command::Summary => Err(WordFault::FileCount { at: count }),
         Command::Help => Ok(Order::Help),
     }
 }
@@ -475,11 +517,32 @@ fn named_of<'a>(arguments: &[Argument<'a>]) -> Named<'a>
     }
 }
 
-/// Whether a command is the one that has no source.
-fn is_help(command: Command) -> bool
-    ensures { result ≡ is_help command }
+/// To search for a plan of the problem that a seed draws; the seed has to be given.
+fn summary(count: u32, value: Option<&str>, seed: u64) -> Result<Order, WordFault>
+    ensures { result ≡ summary count (option_map (λ t. t.now) value.entry) seed }
 {
-    matches!(command, Command::Help)
+    match value {
+        Some(_) => Ok(Order::Summary { seed }),
+        None => Err(WordFault::Missing { at: count }),
+    }
+}
+
+/// The order of a command that has no source; none where the command has one.
+fn sourceless(
+    command: Command,
+    count: u32,
+    arguments: &[Argument<'_>],
+) -> Option<Result<Order, WordFault>>
+    ensures { result ≡ sourceless command count (map view_of arguments.now) }
+{
+    match command {
+        Command::Help => Some(Ok(Order::Help)),
+        Command::Summary => {
+            let value = value_of(arguments, Setting::Seed);
+            Some(summary(count, value, number_of(arguments, Setting::Seed)))
+        }
+        _ => None,
+    }
 }
 
 /// The order of a command with its files, those that options name, and its scale.
@@ -492,8 +555,8 @@ fn order_from(
 ) -> Result<Order, WordFault>
     ensures { Answers result (order_from command count (map view_of arguments.now)) }
 {
-    if is_help(command) {
-        return Ok(Order::Help);
+    if let Some(order) = sourceless(command, count, arguments) {
+        return order;
     }
     let source = source_from(
         alloc,
@@ -553,9 +616,10 @@ fn judge(
 /// problem; those take `--scale` (1, 10, 100 or 1000). `solve` takes a problem and `--lead` (0 to
 /// 1000), `--actions` (1 to 64), `--horizon` (1 to 2^40), `--nodes` (1 to 200,000) and `--trace`, a
 /// file; `simulate` takes these and `--script`, which it needs; `validate` takes a problem,
-/// `--plan`, which it needs, `--actions` and `--horizon`; `ground` takes two files; `help` takes no
-/// file and no option. The answer is exactly what the words say, or their first fault, or want of
-/// memory.
+/// `--plan`, which it needs, `--actions` and `--horizon`; `ground` takes two files; `replay` takes
+/// the words of `solve`, and needs `--trace`; `summary` takes no file and `--seed` (0 to
+/// 9,999,999,999,999), which it needs; `help` takes no file and no option. The answer is
+/// exactly what the words say, or their first fault, or want of memory.
 pub fn read_words(alloc: Global, words: &[String]) -> Result<Order, WordFault>
     requires { length words.now < 2 ^ 31 }
     ensures { Answers result (order_of (map string_bytes words.now)) }

@@ -6,7 +6,7 @@ use Rattle.run_cli.specs.Statuses.{EndsRun}
 use Rattle.run_cli.specs.declared.words.Order.{Order}
 use Rattle.run_cli.specs.declared.words.WordFault.{WordFault}
 use Rattle.tp_world.specs.Views.{Outside, ClockView}
-use Rattle.run_cli.proofs.Ranges.{solve-range, simulate-range, validate-range, ground-range}
+use Rattle.run_cli.proofs.Ranges.{solve-range, simulate-range, validate-range, ground-range, replay-range}
 use Rattle.run_cli.proofs.command.run.Goals as goal
 
 pub solve_kept-requires-clause-limits : goal.solve_kept-requires-clause-limits
@@ -26,6 +26,14 @@ simulate_kept-requires-clause-scaled g c =
 pub judge_files-requires : goal.judge_files-requires
 judge_files-requires g c =
     validate-range (map string_bytes c.args.words.now) c.in-Ok-Validate.source c.in-Ok-Validate.plan c.in-Ok-Validate.limits (c.in-Ok-Validate.ensures ∙ ap Ok c.in-Ok-Validate.field-0-is)
+
+pub replay_files-requires-clause-limited : goal.replay_files-requires-clause-limited
+replay_files-requires-clause-limited g c =
+    (replay-range (map string_bytes c.args.words.now) c.in-Ok-Replay.source c.in-Ok-Replay.trace c.in-Ok-Replay.limits (c.in-Ok-Replay.ensures ∙ ap Ok c.in-Ok-Replay.field-0-is)).0
+
+pub replay_files-requires-clause-scaled : goal.replay_files-requires-clause-scaled
+replay_files-requires-clause-scaled g c =
+    (replay-range (map string_bytes c.args.words.now) c.in-Ok-Replay.source c.in-Ok-Replay.trace c.in-Ok-Replay.limits (c.in-Ok-Replay.ensures ∙ ap Ok c.in-Ok-Replay.field-0-is)).1
 
 pub ground_files-requires : goal.ground_files-requires
 ground_files-requires g c =

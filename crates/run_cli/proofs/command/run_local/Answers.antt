@@ -1,8 +1,9 @@
 use Rattle.std.proofs.Common.{◌∙◌, ap, refl, map, Ok, string_bytes}
 use Rattle.run_cli.proofs.Stopping.{fault-local}
-use Rattle.run_cli.specs.Orders.{order_of}
+use Rattle.run_cli.proofs.Traced.{same-keeps}
+use Rattle.run_cli.specs.Orders.{order_of, trace_of}
 use Rattle.tp_world.specs.Views.{Outside}
-use Rattle.run_cli.proofs.Ranges.{solve-range, simulate-range, validate-range, ground-range}
+use Rattle.run_cli.proofs.Ranges.{solve-range, simulate-range, validate-range, ground-range, replay-range}
 use Rattle.run_cli.proofs.command.run_local.Goals as goal
 
 pub leave_file-requires : goal.leave_file-requires
@@ -20,9 +21,21 @@ pub judge_files-requires : goal.judge_files-requires
 judge_files-requires g c =
     validate-range (map string_bytes c.args.words.now) c.in-Ok-Validate.source c.in-Ok-Validate.plan c.in-Ok-Validate.limits (c.in-Ok-Validate.ensures ∙ ap Ok c.in-Ok-Validate.field-0-is)
 
+pub replay_files-requires-clause-limited : goal.replay_files-requires-clause-limited
+replay_files-requires-clause-limited g c =
+    (replay-range (map string_bytes c.args.words.now) c.in-Ok-Replay.source c.in-Ok-Replay.trace c.in-Ok-Replay.limits (c.in-Ok-Replay.ensures ∙ ap Ok c.in-Ok-Replay.field-0-is)).0
+
+pub replay_files-requires-clause-scaled : goal.replay_files-requires-clause-scaled
+replay_files-requires-clause-scaled g c =
+    (replay-range (map string_bytes c.args.words.now) c.in-Ok-Replay.source c.in-Ok-Replay.trace c.in-Ok-Replay.limits (c.in-Ok-Replay.ensures ∙ ap Ok c.in-Ok-Replay.field-0-is)).1
+
 pub ground_files-requires : goal.ground_files-requires
 ground_files-requires g c =
     ground-range (map string_bytes c.args.words.now) c.in-Ok-Ground.domain c.in-Ok-Ground.problem c.in-Ok-Ground.scale (c.in-Ok-Ground.ensures ∙ ap Ok c.in-Ok-Ground.field-0-is)
+
+pub returns-in-Ok-Solve-clause-contents : goal.returns-in-Ok-Solve-clause-contents
+returns-in-Ok-Solve-clause-contents g c =
+    same-keeps (trace_of (order_of (map string_bytes c.args.words.now))) (g.F.Files.view c.args.files.now).contents (g.F.Files.view c.leave_file.new.files).contents c.leave_file.ensures.contents
 
 pub returns-clause-ends : goal.returns-clause-ends
 returns-clause-ends g c =

@@ -22,9 +22,10 @@ returns-in_ok-failed_line-in-Err-Failed-clause-stop g c =
 pub returns-in_ok-too_long_line-in-Err-TooLong-clause-stop : goal.returns-in_ok-too_long_line-in-Err-TooLong-clause-stop
 returns-in_ok-too_long_line-in-Err-TooLong-clause-stop g c =
     let long = rw c.in-Err-TooLong.field-0-is at c.in-Err-TooLong.ensures.too_long refl in
+    let many = rw c.most_bytes.ensures at long in
     let same = rw c.in-Err-TooLong.field-0-is at c.in-Err-TooLong.ensures.load_faults in
     too-long-one (file_of c.args.role c.args.name.now) (g.F.Files.view c.args.files.now) (g.F.Files.view c.load.new.self) c.load.ensures.requests
-    4 c.in_ok-too_long_line-in-Err-TooLong.field-0.items long same refl c.in_ok-too_long_line-in-Err-TooLong.ensures
+    4 c.in_ok-too_long_line-in-Err-TooLong.field-0.items many same refl c.in_ok-too_long_line-in-Err-TooLong.ensures
 
 pub returns-in-Err-NoMemory-clause-stop : goal.returns-in-Err-NoMemory-clause-stop
 returns-in-Err-NoMemory-clause-stop g c = all-asked c.load.ensures.requests
