@@ -1,4 +1,6 @@
 pub mod Rules
+pub mod Keeping
+pub mod Judged
 pub mod Replays
 pub mod Laws
 pub mod Samples

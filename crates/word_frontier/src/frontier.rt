@@ -132,6 +132,26 @@ impl Frontier {
         }
     }
 
+    /// Whether the node of an id stands.
+    pub fn has(&self, id: u32) -> bool
+        ensures { result ≡ has_id id self.now.nodes }
+    {
+        match self.slots.get(id as usize) {
+            Some(slot) => slot.is_among(Among::All),
+            None => false,
+        }
+    }
+
+    /// Whether the node of an id stands and is open.
+    pub fn is_open(&self, id: u32) -> bool
+        ensures { result ≡ has_id id (open_nodes self.now.nodes) }
+    {
+        match self.slots.get(id as usize) {
+            Some(slot) => slot.is_among(Among::Open),
+            None => false,
+        }
+    }
+
     /// The node of the least rank and id, open or taken, if any stands.
     pub fn best(&self) -> Option<Standing>
         ensures { GivesLeast self.now.nodes result }
@@ -291,8 +311,8 @@ impl Frontier {
         self.stands.enter(rank, made);
     }
 
-    /// The node of an id leaves.
-    fn leave(&mut self, id: u32)
+    /// The node of an id, which stands, leaves.
+    pub fn leave(&mut self, id: u32)
         requires { IsTrue (has_id id self.old.nodes) }
         ensures nodes { self.new.nodes ≡ without id self.old.nodes }
         ensures made { self.new.made ≡ self.old.made }
