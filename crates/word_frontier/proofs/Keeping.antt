@@ -3,7 +3,7 @@ use Rattle.std.proofs.Common.{◌≡◌, refl, sym, ap, subst, ◌∙◌, inl, i
 use Rattle.std.proofs.lemmas.List.{length-map, map-set}
 use Rattle.std.proofs.lemmas.Option.{slice_get_within, slice_get_past, get_or_from_slice_get}
 use Rattle.std.proofs.Math.Seq.{map-set_same}
-use Rattle.std.specs.List.{slice_get}
+use Rattle.std.specs.List.{slice_get, filter}
 use Rattle.tp_spec.specs.Lists.{IsIn, is_empty}
 use Rattle.tp_spec.specs.declared.plan.Mark.{Mark}
 use Rattle.word_frontier.specs.declared.slot.Slot.{Slot}
@@ -17,7 +17,7 @@ use Rattle.word_frontier.specs.Slots.{Step, Held, held, helds, helds_of, nodes_f
 use Rattle.word_frontier.proofs.Words.{words_of-length}
 use Rattle.word_frontier.proofs.Places.{equal, equals, none_some, some_same, map-get, item-of, lies-of, AreFewer, AgreeBut, heads-moved, fewer-set, agree-set}
 use Rattle.word_frontier.proofs.Chain.{Counted, counted, key-of, ranked}
-use Rattle.word_frontier.proofs.Nodes.{without-at, taken-at, renewed-at, taken_there, is_taken-at, stood, is_in, kept, kept-of, any-found, Mirrors, least-of, least-same, none-of, helds-length, helds-get, helds-set}
+use Rattle.word_frontier.proofs.Nodes.{without-at, taken-at, renewed-at, taken_there, is_taken-at, passes, good_there, has-at, stood, is_in, kept, kept-of, any-found, Mirrors, least-of, least-same, none-of, helds-length, helds-get, helds-set}
 
 pub words-slots : (slots : List Slot) → length (words_of (map step_of slots)) ≡ length slots
 words-slots slots = words_of-length (map step_of slots) ∙ length-map slots step_of
@@ -158,6 +158,46 @@ taken-is Gone a actor w r d k = refl
 
 pub is_taken-some : (slots : List Slot) (a id : ℕ) (s : Slot) → slice_get slots id ≡ Some s → is_taken a id (nodes_of slots) ≡ taken_in s.state s.taker a
 is_taken-some slots a id s h = is_taken-at a (helds_of slots) id ∙ ap (taken_there a) (get-slot slots id s h) ∙ taken-is s.state s.taker a (word-at slots id) s.rank s.deadline s.known
+
+-- whether a node stands, and whether it is open
+
+abbrev pub any_taker : Option ℕ → Bool
+any_taker o = true
+
+abbrev pub no_taker : Option ℕ → Bool
+no_taker o = not (is_some o)
+
+all-pass : (ns : List RankedNode) → filter (passes any_taker) ns ≡ ns
+all-pass [] = refl
+all-pass (n ∷ ns) = ap (λ r. n ∷ r) (all-pass ns)
+
+all-is : (t : State) (a : ℕ) (w : List Mark) (r d k : ℕ)
+    → good_there any_taker (Some (cond (counts among.All t) (Some (record { word = w; rank = r; deadline = d; known = k; taker = taker_of t a })) None)) ≡ counts among.All t
+all-is Open a w r d k = refl
+all-is Taken a w r d k = refl
+all-is Gone a w r d k = refl
+
+open-is : (t : State) (a : ℕ) (w : List Mark) (r d k : ℕ)
+    → good_there no_taker (Some (cond (counts among.All t) (Some (record { word = w; rank = r; deadline = d; known = k; taker = taker_of t a })) None)) ≡ counts among.Open t
+open-is Open a w r d k = refl
+open-is Taken a w r d k = refl
+open-is Gone a w r d k = refl
+
+pub has-some : (slots : List Slot) (id : ℕ) (s : Slot) → slice_get slots id ≡ Some s → has_id id (nodes_of slots) ≡ counts among.All s.state
+has-some slots id s h =
+    ap (has_id id) (sym (all-pass (nodes_of slots)))
+    ∙ has-at any_taker (helds_of slots) id ∙ ap (good_there any_taker) (get-slot slots id s h) ∙ all-is s.state s.taker (word-at slots id) s.rank s.deadline s.known
+
+pub has-none : (slots : List Slot) (id : ℕ) → length slots ≤ id → has_id id (nodes_of slots) ≡ false
+has-none slots id h =
+    ap (has_id id) (sym (all-pass (nodes_of slots)))
+    ∙ has-at any_taker (helds_of slots) id ∙ ap (good_there any_taker) (slice_get_past (helds_of slots) id (let n = helds-slots slots in omega (arith, n, h)))
+
+pub open-some : (slots : List Slot) (id : ℕ) (s : Slot) → slice_get slots id ≡ Some s → has_id id (open_nodes (nodes_of slots)) ≡ counts among.Open s.state
+open-some slots id s h = has-at no_taker (helds_of slots) id ∙ ap (good_there no_taker) (get-slot slots id s h) ∙ open-is s.state s.taker (word-at slots id) s.rank s.deadline s.known
+
+pub open-none : (slots : List Slot) (id : ℕ) → length slots ≤ id → has_id id (open_nodes (nodes_of slots)) ≡ false
+open-none slots id h = has-at no_taker (helds_of slots) id ∙ ap (good_there no_taker) (slice_get_past (helds_of slots) id (let n = helds-slots slots in omega (arith, n, h)))
 
 -- a write of a slot's state
 

@@ -6,7 +6,7 @@ use Rattle.std.specs.List.{slice_get, filter, list_all, list_any}
 use Rattle.tp_spec.specs.Lists.{IsIn, each_pair}
 use Rattle.tp_spec.specs.declared.plan.Mark.{Mark}
 use Rattle.word_frontier.specs.declared.slot.Slot.{Slot}
-use Rattle.word_frontier.specs.Nodes.{RankedNode, no_later, IsLeast, taken_by, renewed, without, is_taker, is_taken}
+use Rattle.word_frontier.specs.Nodes.{RankedNode, no_later, IsLeast, taken_by, renewed, without, is_taker, is_taken, has_id}
 use Rattle.word_frontier.specs.Slots.{Held, held, helds, node_in, nodes_from, word_of, head_at, NoneFrom, FirstAt, IsFirst, AreHeads, LeastHead}
 use Rattle.word_frontier.proofs.Places.{equal, unlike, above, some_same, none_some}
 
@@ -109,6 +109,41 @@ is_taken-from a (Some s ∷ hs) i (suc k) id e =
 
 pub is_taken-at : (a : ℕ) (hs : List (Option Held)) (id : ℕ) → is_taken a id (nodes_from 0 hs) ≡ taken_there a (slice_get hs id)
 is_taken-at a hs id = is_taken-from a hs 0 id id (omega arith)
+
+-- whether a node of an id stands whose taker passes a test
+
+module _ (good : Option ℕ → Bool) where
+  abbrev pub passes : RankedNode → Bool
+  passes n = good n.taker
+
+  abbrev pub good_there : Option (Option Held) → Bool
+  good_there None = false
+  good_there (Some None) = false
+  good_there (Some (Some h)) = good h.taker
+
+  has-before : (hs : List (Option Held)) (i id : ℕ) → id < i → has_id id (filter passes (nodes_from i hs)) ≡ false
+  has-before [] i id h = refl
+  has-before (None ∷ hs) i id h = has-before hs (suc i) id (omega arith)
+  has-before (Some s ∷ hs) i id h = elim (good s.taker) as (λ b. has_id id (cond b (node_in i s ∷ filter passes (nodes_from (suc i) hs)) (filter passes (nodes_from (suc i) hs))) ≡ false) [
+    | true ↦ ap (λ b. b || has_id id (filter passes (nodes_from (suc i) hs))) (above i id h) ∙ has-before hs (suc i) id (omega arith)
+    | false ↦ has-before hs (suc i) id (omega arith)
+  ]
+
+  has-from : (hs : List (Option Held)) (i k id : ℕ) → id ≡ i + k → has_id id (filter passes (nodes_from i hs)) ≡ good_there (slice_get hs k)
+  has-from [] i k id e = refl
+  has-from (None ∷ hs) i zero id e = has-before hs (suc i) id (omega arith)
+  has-from (None ∷ hs) i (suc k) id e = has-from hs (suc i) k id (omega arith)
+  has-from (Some s ∷ hs) i zero id e = elim (good s.taker) as (λ b. has_id id (cond b (node_in i s ∷ filter passes (nodes_from (suc i) hs)) (filter passes (nodes_from (suc i) hs))) ≡ b) [
+    | true ↦ ap (λ b. b || has_id id (filter passes (nodes_from (suc i) hs))) (equal i id (omega arith))
+    | false ↦ has-before hs (suc i) id (omega arith)
+  ]
+  has-from (Some s ∷ hs) i (suc k) id e = elim (good s.taker) as (λ b. has_id id (cond b (node_in i s ∷ filter passes (nodes_from (suc i) hs)) (filter passes (nodes_from (suc i) hs))) ≡ good_there (slice_get hs k)) [
+    | true ↦ ap (λ b. b || has_id id (filter passes (nodes_from (suc i) hs))) (unlike i id (omega arith)) ∙ has-from hs (suc i) k id (omega arith)
+    | false ↦ has-from hs (suc i) k id (omega arith)
+  ]
+
+  pub has-at : (hs : List (Option Held)) (id : ℕ) → has_id id (filter passes (nodes_from 0 hs)) ≡ good_there (slice_get hs id)
+  has-at hs id = has-from hs 0 id id (omega arith)
 
 -- the node of an id lies in its slot
 pub record Stood (hs : List (Option Held)) (i : ℕ) (n : RankedNode) : Type 0 where
