@@ -100,7 +100,7 @@ one-marks p l m w xs zs h k = same-rising xs zs (marks-rise xs h.in_order) (mark
 worse-both : (a b i j : ℕ) → (nat_lt a b || (a == b && nat_le i j)) ≡ true → (nat_lt b a || (b == a && nat_le j i)) ≡ true → i ≡ j
 worse-both a b i j h k = grind (arith, nat_tests)
 
-best-id : (p : Problem) (ns : List Node) (a b : Node) → IsBest p ns a → IsBest p ns b → a.id ≡ b.id
+pub best-id : (p : Problem) (ns : List Node) (a b : Node) → IsBest p ns a → IsBest p ns b → a.id ≡ b.id
 best-id p ns a b h k =
     worse-both (rank p a.word) (rank p b.word) a.id b.id
     (each-in (λ n. no_worse p a n ≡ true) ns b (each-true (no_worse p a) ns h.least) k.there)
