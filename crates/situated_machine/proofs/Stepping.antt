@@ -1,7 +1,7 @@
 -- One event more that keeps all rules: what a replay keeps, and the state to which it leads.
 use Rattle.std.proofs.Common.{◌≡◌, refl, sym, ap, subst, ◌∙◌, ℕ, suc, ◌+◌, ◌<◌, ◌≤◌, ◌^◌, inl, inr, ◌==◌, ◌&&◌, ◌||◌, max, min, nat_lt, nat_le, Bool, true, false, not, cond, List, [], ◌∷◌, ◌++◌, length, map, Option, Some, None, All, IsTrue, arith}
 use Rattle.std.specs.List.{AllByRecursion as Each, filter, list_all, list_any}
-use Rattle.std.proofs.lemmas.Bool.{and_parts, and_from, le-leb, false≢true}
+use Rattle.std.proofs.lemmas.Bool.{and_parts, and_from, le-leb, false≢true, eqb-true, eq-eqb}
 use Rattle.std.proofs.lemmas.List.{length-map}
 use Rattle.commit_book.specs.Commits.{IsLater}
 use Rattle.tp_spec.specs.declared.event.Event.{Event}
@@ -21,13 +21,15 @@ use Rattle.tp_laws.specs.Plans.{AreInTurn}
 use Rattle.tp_laws.proofs.EarlyLists.{each-in, each-true, filter-map}
 use Rattle.tp_laws.proofs.Members.{in-filter, in-map, map-in}
 use Rattle.word_frontier.specs.declared.child.Child.{Child}
-use Rattle.word_frontier.specs.Nodes.{RankedNode, FrontierView, IsLeast, no_later, is_taken, is_taker, children_from, live_at}
+use Rattle.word_frontier.specs.declared.frontier.Standing.{Standing}
+use Rattle.word_frontier.specs.Nodes.{GivesLeast, RankedNode, FrontierView, IsLeast, no_later, is_taken, is_taker, children_from, live_at}
 use Rattle.word_frontier.specs.Nodes as kept_nodes
 use Rattle.machine_run.specs.Children.{IsChild, marks_of}
 use Rattle.machine_run.specs.Frontiers.{IsFrontierOf, plain_node}
-use Rattle.machine_run.proofs.Frontiers.{frontier-same, frontier-drop, frontier-dispatch, frontier-take, frontier-expand, word-at, opened}
+use Rattle.machine_run.proofs.Frontiers.{frontier-same, frontier-drop, frontier-dispatch, frontier-take, frontier-expand, word-at, opened, least-open-best}
 use Rattle.machine_run.specs.Kept.{IsRoot}
 use Rattle.machine_run.proofs.Roots.{root-stands}
+use Rattle.tp_spec.specs.WellFormed.{IsWellFormed}
 use Rattle.word_network.specs.Conditions.{AreLimits}
 use Rattle.machine_run.proofs.Ranks.{rank-few}
 use Rattle.situated_machine.specs.Judged.{AreChildrenOf}
@@ -35,6 +37,7 @@ use Rattle.situated_machine.specs.Keeping.{ReplayParts, IsKept, machine_of, turn
 use Rattle.situated_machine.specs.Laws.{IsOrderly}
 use Rattle.situated_machine.specs.Rules.{KeepsAll, IsOfBest, has_id, taken_nodes, is_taken_by}
 use Rattle.situated_machine.specs.declared.replayed.Rule.TheVariants as rules
+use Rattle.situated_machine.proofs.Single.{best-id}
 use Rattle.situated_machine.proofs.Orderly.{orderly-step, orderly-same, orderly-first}
 
 -- ids of the nodes that are kept are the machine's
@@ -293,7 +296,36 @@ module _ {p w : Problem} {l : Limits} {f : FrontierView} {commits : List Timed} 
         is
         (orderly-step p l m kept.orderly (Expand taker id (marks_of children)) keeps)
 
+-- the least open node is the best one of the machine
+
+module _ {p w : Problem} {l : Limits} {f : FrontierView} {commits : List Timed} {clock : ℕ} {actor : Option ℕ} {acted over : Bool} (kept : IsKept (parts p w l f commits clock actor acted over)) where
+  abbrev at_now : Machine
+  at_now = machine_of (parts p w l f commits clock actor acted over)
+
+  pub least-yes : (id : ℕ) (found : Standing) → GivesLeast (kept_nodes.open_nodes f.nodes) (Some found) → (found.id == id) ≡ true → IsOfBest p (open_nodes at_now.nodes) id
+  least-yes id found least same = record {
+    node = plain_node least.0;
+    best = least-open-best p l f at_now least.0 kept.frontier least.1;
+    named = sym least.2.id ∙ eqb-true found.id id same;
+  }
+
+  pub least-no : (id : ℕ) (found : Standing) → GivesLeast (kept_nodes.open_nodes f.nodes) (Some found) → (found.id == id) ≡ false → IsOfBest p (open_nodes at_now.nodes) id → ⊥
+  least-no id found least differ b =
+      false≢true (sym differ ∙ eq-eqb found.id id (least.2.id ∙ best-id p (open_nodes at_now.nodes) (plain_node least.0) b.node (least-open-best p l f at_now least.0 kept.frontier least.1) b.best ∙ b.named))
+
+  pub least-none : (id : ℕ) → GivesLeast (kept_nodes.open_nodes f.nodes) None → IsOfBest p (open_nodes at_now.nodes) id → ⊥
+  least-none id closed b = subst (λ ns. IsIn b.node ns) (opened p l f at_now kept.frontier ∙ ap (map plain_node) closed) b.best.there
+
 -- before the first event: the root alone
+
+pub root-of : {p : Problem} {horizon : ℕ} {f : FrontierView} {at_start : ℕ} → IsWellFormed p → at_start ≡ rank p [] → f.nodes ≡ record { id = 0; word = []; rank = at_start; deadline = horizon + 1; known = 0; taker = None } ∷ [] → f.made ≡ 1 → length p.goal < f.ranks → IsRoot p horizon f
+root-of {p} {horizon} formed ranked nodes made ranks = record {
+  formed = formed;
+  nodes = nodes ∙ ap (λ k. ◌∷◌ {A = RankedNode} (record { id = 0; word = []; rank = k; deadline = horizon + 1; known = 0; taker = None }) []) ranked;
+  made = made;
+  ranks = ranks;
+}
+
 module _ {p w : Problem} {l : Limits} {f : FrontierView} {commits : List Timed} (walked : w ≡ p) (limited : AreLimits l) (none : commits ≡ []) (r : IsRoot p l.horizon f) where
   root-frontier : IsFrontierOf p l f first
   root-frontier = (root-stands p l f [] limited r refl).frontier refl
