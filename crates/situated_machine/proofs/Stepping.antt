@@ -1,5 +1,5 @@
 -- One event more that keeps all rules: what a replay keeps, and the state to which it leads.
-use Rattle.std.proofs.Common.{◌≡◌, refl, sym, ap, subst, ◌∙◌, ℕ, suc, ◌+◌, ◌<◌, ◌≤◌, ◌^◌, inl, inr, ◌==◌, ◌&&◌, ◌||◌, max, min, nat_lt, nat_le, Bool, true, false, not, cond, List, [], ◌∷◌, ◌++◌, length, map, Option, Some, None, All, IsTrue, arith}
+use Rattle.std.proofs.Common.{◌≡◌, refl, sym, ap, subst, ◌∙◌, ℕ, zero, suc, ◌+◌, ◌<◌, ◌≤◌, ◌^◌, inl, inr, ◌==◌, ◌&&◌, ◌||◌, max, min, nat_lt, nat_le, Bool, true, false, not, cond, List, [], ◌∷◌, ◌++◌, length, map, Option, Some, None, Result, Ok, Err, OnOk, OnErr, All, IsTrue, arith}
 use Rattle.std.specs.List.{AllByRecursion as Each, filter, list_all, list_any}
 use Rattle.std.proofs.lemmas.Bool.{and_parts, and_from, le-leb, false≢true, eqb-true, eq-eqb}
 use Rattle.std.proofs.lemmas.List.{length-map}
@@ -49,22 +49,26 @@ plain-has id (n ∷ ns) = ap (λ b. (n.id == id) || b) (plain-has id ns)
 pub plain-open : (ns : List RankedNode) → open_nodes (map plain_node ns) ≡ map plain_node (kept_nodes.open_nodes ns)
 plain-open ns = filter-map machine.is_open plain_node ns
 
+and-true : (b : Bool) → b ≡ (b && true)
+and-true true = refl
+and-true false = refl
+
+and-false : (b rest : Bool) → rest ≡ (b && false) || rest
+and-false true rest = refl
+and-false false rest = refl
+
+module _ (id actor : ℕ) (n : RankedNode) (ns : List RankedNode) (rest : has_id id (taken_nodes actor (map plain_node ns)) ≡ is_taken actor id ns) where
+  taken-own : (own : Bool) → has_id id (cond own (plain_node n ∷ taken_nodes actor (map plain_node ns)) (taken_nodes actor (map plain_node ns))) ≡ ((n.id == id) && own) || is_taken actor id ns
+  taken-own true = λ i. and-true (n.id == id) i || rest i
+  taken-own false = rest ∙ and-false (n.id == id) (is_taken actor id ns)
+
+  taken-first : (o : Option ℕ) → has_id id (cond (some_and o (λ a. a == actor)) (plain_node n ∷ taken_nodes actor (map plain_node ns)) (taken_nodes actor (map plain_node ns))) ≡ ((n.id == id) && is_taker actor o) || is_taken actor id ns
+  taken-first None = taken-own false
+  taken-first (Some a) = taken-own (a == actor)
+
 pub plain-taken : (id actor : ℕ) (ns : List RankedNode) → has_id id (taken_nodes actor (map plain_node ns)) ≡ is_taken actor id ns
 plain-taken id actor [] = refl
-plain-taken id actor (n ∷ ns) = by_taker n.taker where
-  by_own : (own : Bool) → has_id id (cond own (plain_node n ∷ taken_nodes actor (map plain_node ns)) (taken_nodes actor (map plain_node ns))) ≡ ((n.id == id) && own) || is_taken actor id ns
-  by_own true = (λ i. by_id (n.id == id) i || plain-taken id actor ns i) where
-    by_id : (b : Bool) → b ≡ (b && true)
-    by_id true = refl
-    by_id false = refl
-  by_own false = plain-taken id actor ns ∙ by_id (n.id == id) where
-    by_id : (b : Bool) → is_taken actor id ns ≡ (b && false) || is_taken actor id ns
-    by_id true = refl
-    by_id false = refl
-
-  by_taker : (o : Option ℕ) → has_id id (cond (some_and o (λ a. a == actor)) (plain_node n ∷ taken_nodes actor (map plain_node ns)) (taken_nodes actor (map plain_node ns))) ≡ ((n.id == id) && is_taker actor o) || is_taken actor id ns
-  by_taker None = by_own false
-  by_taker (Some a) = by_own (a == actor)
+plain-taken id actor (n ∷ ns) = taken-first id actor n ns (plain-taken id actor ns) n.taker
 
 -- the least nodes
 
@@ -124,7 +128,7 @@ filter-whole test (x ∷ xs) h = ap (λ b. cond b (x ∷ filter test xs) (filter
 
 all-of : {A : Type 0} (P : A → Type 0) (xs : List A) → ((x : A) → IsIn x xs → P x) → All P xs
 all-of P [] h k d below = absurd (omega (arith, below))
-all-of P (x ∷ xs) h 0 d below = h x (inl refl)
+all-of P (x ∷ xs) h zero d below = h x (inl refl)
 all-of P (x ∷ xs) h (suc k) d below = all-of P xs (λ y i. h y (inr i)) k d (omega (arith, below))
 
 -- by its parts
@@ -188,6 +192,11 @@ module _ {p w : Problem} {l : Limits} {f : FrontierView} {commits : List Timed} 
       behind f new clock actor acted over (Dispatch act) refl (λ i. record m { commits = grown i })
       (frontier-dispatch p l f m act kept.frontier)
       (orderly-step p l m kept.orderly (Dispatch act) keeps)
+
+  -- an act that may be refused
+  pub kept-added : {T E : Type 0} (act : Timed) (new : List Timed) → KeepsAll p l m (Dispatch act) → (r : Result T E) → OnOk r (new ≡ commits ++ act ∷ []) → OnErr r (new ≡ commits) → IsKept (parts p w l f new clock actor acted over)
+  kept-added act new keeps (Ok done) added refused = (behind-dispatch act new keeps added).kept
+  kept-added act new keeps (Err e) added refused = subst (λ cs. IsKept (parts p w l f cs clock actor acted over)) (sym refused) kept
 
   -- it starts later than each commitment of its action
   pub act-later : (act : Timed) → KeepsAll p l m (Dispatch act) → IsLater commits act
@@ -321,7 +330,7 @@ module _ {p w : Problem} {l : Limits} {f : FrontierView} {commits : List Timed} 
 pub root-of : {p : Problem} {horizon : ℕ} {f : FrontierView} {at_start : ℕ} → IsWellFormed p → at_start ≡ rank p [] → f.nodes ≡ record { id = 0; word = []; rank = at_start; deadline = horizon + 1; known = 0; taker = None } ∷ [] → f.made ≡ 1 → length p.goal < f.ranks → IsRoot p horizon f
 root-of {p} {horizon} formed ranked nodes made ranks = record {
   formed = formed;
-  nodes = nodes ∙ ap (λ k. ◌∷◌ {A = RankedNode} (record { id = 0; word = []; rank = k; deadline = horizon + 1; known = 0; taker = None }) []) ranked;
+  nodes = nodes ∙ (λ i. record { id = 0; word = []; rank = ranked i; deadline = horizon + 1; known = 0; taker = None } ∷ []);
   made = made;
   ranks = ranks;
 }

@@ -20,7 +20,7 @@ returns-in-Some-clause-no c differ best =
     (subst (λ (r : ReplayView). IsOfBest r.problem (open_nodes r.machine.nodes) c.args.id) (sym c.self.view_is) best)
 
 pub returns-in-None-clause-no : goal.returns-in-None-clause-no
-returns-in-None-clause-no c no best =
+returns-in-None-clause-no c closed best =
     let found = subst (GivesLeast (kept_nodes.open_nodes c.self.inside.frontier.nodes)) c.in-None.is c.least_open.ensures in
     least-none c.self.invariant c.args.id found
     (subst (λ (r : ReplayView). IsOfBest r.problem (open_nodes r.machine.nodes) c.args.id) (sym c.self.view_is) best)
