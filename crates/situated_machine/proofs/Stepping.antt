@@ -1,6 +1,6 @@
 -- One event more that keeps all rules: what a replay keeps, and the state to which it leads.
-use Rattle.std.proofs.Common.{◌≡◌, refl, sym, ap, subst, ◌∙◌, ℕ, zero, suc, ◌+◌, ◌<◌, ◌≤◌, ◌^◌, inl, inr, ◌==◌, ◌&&◌, ◌||◌, max, min, nat_lt, nat_le, Bool, true, false, not, cond, List, [], ◌∷◌, ◌++◌, length, map, Option, Some, None, Result, Ok, Err, OnOk, OnErr, All, IsTrue, arith}
-use Rattle.std.specs.List.{AllByRecursion as Each, filter, list_all, list_any}
+use Rattle.std.proofs.Common.{◌≡◌, refl, sym, ap, subst, ◌∙◌, ℕ, zero, suc, ◌+◌, ◌<◌, ◌≤◌, ◌^◌, inl, inr, ◌==◌, ◌&&◌, ◌||◌, nat_lt, nat_le, Bool, true, false, not, cond, List, [], ◌∷◌, ◌++◌, length, map, Option, Some, None, Result, Ok, Err, OnOk, OnErr, All, arith}
+use Rattle.std.specs.List.{AllByRecursion as Each, filter, list_all}
 use Rattle.std.proofs.lemmas.Bool.{and_parts, and_from, le-leb, false≢true, eqb-true, eq-eqb}
 use Rattle.std.proofs.lemmas.List.{length-map}
 use Rattle.commit_book.specs.Commits.{IsLater}
@@ -13,10 +13,8 @@ use Rattle.tp_spec.specs.declared.plan.Plan.{Plan}
 use Rattle.tp_spec.specs.declared.plan.Timed.{Timed}
 use Rattle.tp_spec.specs.declared.problem.Problem.{Problem}
 use Rattle.tp_spec.specs.Lists.{IsIn, some_and}
-use Rattle.tp_spec.specs.Machine.{Machine, Node, Turn, IsBest, first, step, rank, no_worse, now_after, open_nodes, word_of}
+use Rattle.tp_spec.specs.Machine.{Machine, Node, IsBest, first, step, rank, no_worse, now_after, open_nodes, word_of}
 use Rattle.tp_spec.specs.Machine as machine
-use Rattle.tp_spec.specs.Schedules.{Live}
-use Rattle.tp_laws.specs.Clocks.{IsDeadline}
 use Rattle.tp_laws.specs.Plans.{AreInTurn}
 use Rattle.tp_laws.proofs.EarlyLists.{each-in, each-true, filter-map}
 use Rattle.tp_laws.proofs.Members.{in-filter, in-map, map-in}
@@ -35,7 +33,7 @@ use Rattle.machine_run.proofs.Ranks.{rank-few}
 use Rattle.situated_machine.specs.Judged.{AreChildrenOf}
 use Rattle.situated_machine.specs.Keeping.{ReplayParts, IsKept, machine_of, turn_of, view_of}
 use Rattle.situated_machine.specs.Laws.{IsOrderly}
-use Rattle.situated_machine.specs.Rules.{KeepsAll, IsOfBest, has_id, taken_nodes, is_taken_by}
+use Rattle.situated_machine.specs.Rules.{KeepsAll, IsOfBest, has_id, taken_nodes}
 use Rattle.situated_machine.specs.declared.replayed.Rule.TheVariants as rules
 use Rattle.situated_machine.proofs.Single.{best-id}
 use Rattle.situated_machine.proofs.Orderly.{orderly-step, orderly-same, orderly-first}
@@ -87,8 +85,7 @@ best-least p l f m id is b =
     let same : open_nodes m.nodes ≡ map plain_node (kept_nodes.open_nodes f.nodes) = opened p l f m is in
     let best : IsBest p (map plain_node (kept_nodes.open_nodes f.nodes)) b.node = subst (λ ns. IsBest p ns b.node) same b.best in
     let from : (n : RankedNode) × IsIn n (kept_nodes.open_nodes f.nodes) × (plain_node n ≡ b.node) = in-map plain_node b.node (kept_nodes.open_nodes f.nodes) best.there in
-    let n : RankedNode = from.0 in
-    (
+    let n : RankedNode = from.0 in (
       n,
       record {
         there = from.1;
@@ -295,11 +292,11 @@ module _ {p w : Problem} {l : Limits} {f : FrontierView} {commits : List Timed} 
         let e : Event = Expand taker id (marks_of children) in
         let there : kept_nodes.word_at id f.nodes ≡ at = sym (word-at id f.nodes) in
         let is : IsFrontierOf p l g (step l m (Expand taker id (marks_of children))) =
-            frontier-expand p l f g m taker id known children all
-            (λ c i. subst (λ v. IsChild p l commits v c) (sym there) (child c i))
-            (nodes ∙ ap (λ cs. kept_nodes.without id f.nodes ++ children_from known (kept_nodes.word_at id f.nodes) f.made cs) all-live)
-            (made ∙ ap (λ cs. f.made + length cs) all-live ∙ ap (λ k. f.made + k) counted)
-            kept.frontier in
+        frontier-expand p l f g m taker id known children all
+        (λ c i. subst (λ v. IsChild p l commits v c) (sym there) (child c i))
+        (nodes ∙ ap (λ cs. kept_nodes.without id f.nodes ++ children_from known (kept_nodes.word_at id f.nodes) f.made cs) all-live)
+        (made ∙ ap (λ cs. f.made + length cs) all-live ∙ ap (λ k. f.made + k) counted)
+        kept.frontier in
         behind g commits clock actor true over (Expand taker id (marks_of children)) ranks
         (λ i. record m { nodes = is.nodes i; made = is.made i; turn = deed-turn actor acted i })
         is

@@ -1,8 +1,7 @@
 use Rattle.std.proofs.Common.{refl, sym, subst}
 use Rattle.tp_spec.specs.declared.event.Event.TheVariants.{Drop}
-use Rattle.situated_machine.specs.Keeping.{view_of}
+use Rattle.situated_machine.specs.Keeping.{view_of, ReplayView}
 use Rattle.situated_machine.specs.Judged.{Steps}
-use Rattle.situated_machine.specs.Keeping.{ReplayView}
 use Rattle.situated_machine.specs.Rules.{KeepsAll}
 use Rattle.situated_machine.proofs.Stepping.{node-there, behind-drop, parts}
 use Rattle.situated_machine.proofs.keeping.Replayer.drop_node.Goals as goal

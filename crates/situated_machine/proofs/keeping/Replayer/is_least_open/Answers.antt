@@ -1,4 +1,4 @@
-use Rattle.std.proofs.Common.{◌∙◌, ◌≡◌, sym, ap, subst, Some, None}
+use Rattle.std.proofs.Common.{sym, subst}
 use Rattle.tp_spec.specs.Machine.{open_nodes}
 use Rattle.word_frontier.specs.Nodes.{GivesLeast}
 use Rattle.word_frontier.specs.Nodes as kept_nodes

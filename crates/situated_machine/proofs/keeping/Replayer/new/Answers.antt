@@ -1,4 +1,4 @@
-use Rattle.std.proofs.Common.{◌∙◌, ◌≡◌, ap, length, arith, []}
+use Rattle.std.proofs.Common.{◌∙◌, ap, length, arith, []}
 use Rattle.tp_spec.specs.declared.problem.Problem.{Problem}
 use Rattle.machine_run.proofs.Ranks.{rank-few}
 use Rattle.tp_spec.specs.Machine.{rank}

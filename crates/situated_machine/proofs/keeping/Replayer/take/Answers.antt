@@ -1,8 +1,7 @@
 use Rattle.std.proofs.Common.{refl, sym, subst, true}
 use Rattle.tp_spec.specs.declared.event.Event.TheVariants.{Take}
-use Rattle.situated_machine.specs.Keeping.{view_of}
+use Rattle.situated_machine.specs.Keeping.{view_of, ReplayView}
 use Rattle.situated_machine.specs.Judged.{Steps}
-use Rattle.situated_machine.specs.Keeping.{ReplayView}
 use Rattle.situated_machine.specs.Rules.{KeepsAll}
 use Rattle.situated_machine.proofs.Stepping.{behind-take, parts}
 use Rattle.situated_machine.proofs.keeping.Replayer.take.Goals as goal
