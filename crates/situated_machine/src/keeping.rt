@@ -1,7 +1,5 @@
-ghost use Rattle.std.specs.Prelude.{◌≡◌, length, false, IfOk, OnOk, OnErr, IsTrue, is_some};
-ghost use Rattle.situated_machine.specs.Judged.{Steps};
-ghost use Rattle.situated_machine.specs.Rules.{KeepsAll, IsOfBest, MayMakeDeed, has_id, taken_nodes};
-ghost use Rattle.tp_spec.specs.declared.event.Event.{Event as AnEvent};
+ghost use Rattle.std.specs.Prelude.{◌≡◌, false, IfOk, IsTrue, is_some};
+ghost use Rattle.situated_machine.specs.Rules.{IsOfBest, MayMakeDeed, has_id, taken_nodes};
 ghost use Rattle.tp_spec.specs.Lists.{is_empty};
 ghost use Rattle.tp_spec.specs.Machine.{first, open_nodes};
 ghost use Rattle.tp_spec.specs.WellFormed.{IsWellFormed};
