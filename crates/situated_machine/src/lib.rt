@@ -4,7 +4,9 @@
 #![tactic(auto)]
 
 mod examples;
+mod keeping;
 mod laws;
+mod quiet;
 mod replayed;
 
 pub use examples::{events_out_of_place, replayed_runs, wrong_deeds, wrong_takes};
