@@ -1,7 +1,7 @@
 -- Deadlines of a replay's nodes, by the word of an id.
-use Rattle.std.proofs.Common.{◌≡◌, refl, sym, ap, subst, ◌∙◌, ℕ, ◌+◌, ◌<◌, ◌≤◌, ◌^◌, inl, inr, ◌==◌, ◌||◌, nat_le, Bool, true, false, List, [], ◌∷◌, append-nil, length, map, Option, Some, None, arith}
+use Rattle.std.proofs.Common.{◌≡◌, refl, sym, ap, subst, ◌∙◌, ℕ, ◌+◌, ◌<◌, ◌≤◌, ◌^◌, inl, inr, ◌==◌, ◌||◌, nat_le, Bool, true, false, cond, List, [], ◌∷◌, append-nil, length, map, Option, Some, None, arith}
 use Rattle.std.specs.List.{list_all}
-use Rattle.std.proofs.lemmas.Bool.{and_parts, and_from, eqb-true, false≢true, leb-true, le-leb, ltb-true, or_cases}
+use Rattle.std.proofs.lemmas.Bool.{and_parts, and_from, eq-eqb, leb-true, le-leb, ltb-true}
 use Rattle.tp_spec.specs.declared.plan.Limits.{Limits}
 use Rattle.tp_spec.specs.declared.plan.Mark.{Mark}
 use Rattle.tp_spec.specs.declared.plan.Timed.{Timed}
@@ -26,7 +26,7 @@ use Rattle.machine_run.proofs.Taking.{has-id}
 use Rattle.situated_machine.specs.Deadlines.{FindsBest, IsDeadlineIn, IsLiveIn, IsToldOf, word_in}
 use Rattle.situated_machine.specs.Keeping.{ReplayParts, ReplayView, IsKept, machine_of, view_of}
 use Rattle.situated_machine.specs.Laws.{IsOrderly}
-use Rattle.situated_machine.specs.Rules.{has_id}
+use Rattle.situated_machine.specs.Rules.{IsOfBest, has_id}
 use Rattle.situated_machine.proofs.Judging.{word-of}
 
 -- commitments that end within the horizon start in time
@@ -41,10 +41,18 @@ pub has-plain : (id : ℕ) (ns : List RankedNode) → has_id id (map plain_node 
 has-plain id [] = refl
 has-plain id (n ∷ ns) = ap (λ b. n.id == id || b) (has-plain id ns)
 
+plain-has : (id : ℕ) (n : Node) (ns : List Node) → IsIn n ns → n.id ≡ id → has_id id ns ≡ true
+plain-has id n [] h e = absurd h
+plain-has id n (m ∷ ns) (inl same) e = ap (λ b. b || has_id id ns) (eq-eqb m.id id (ap (λ (k : Node). k.id) same ∙ e))
+plain-has id n (m ∷ ns) (inr h) e = or-true (m.id == id) (plain-has id n ns h e) where
+  or-true : (b : Bool) → has_id id ns ≡ true → (b || has_id id ns) ≡ true
+  or-true true k = refl
+  or-true false k = k
+
 plain-renewed : (id deadline known : ℕ) (ns : List RankedNode) → map plain_node (map (renewed id deadline known) ns) ≡ map plain_node ns
 plain-renewed id deadline known [] = refl
 plain-renewed id deadline known (n ∷ ns) = λ i. by_test (n.id == id) i ∷ plain-renewed id deadline known ns i where
-  by_test : (b : Bool) → plain_node (if b then (record n { deadline = deadline; known = known }) else n) ≡ plain_node n
+  by_test : (b : Bool) → plain_node (cond b (record n { deadline = deadline; known = known }) n) ≡ plain_node n
   by_test true = refl
   by_test false = refl
 
@@ -92,6 +100,9 @@ module _ {t : ReplayParts} (kept : IsKept t) where
 
   pub kept-id : (id : ℕ) → has_id id m.nodes ≡ true → kept_nodes.has_id id ns ≡ true
   kept-id id h = sym (has-plain id ns) ∙ h
+
+  pub best-has : (id : ℕ) → IsOfBest t.problem m.nodes id → kept_nodes.has_id id ns ≡ true
+  best-has id best = kept-id id (plain-has id best.node m.nodes best.best.there best.named)
 
   -- what is told of a node
   pub told-of : (found : Standing) (n : RankedNode) → IsIn n ns → Tells found n → IsToldOf (view_of t) found

@@ -67,39 +67,46 @@ module _ (r : ReplayView) (o : IsOrderly r.problem r.limits r.machine) (id : ℕ
     pub quiet-far : NothingIsDue p l → (l.horizon < deadline) ⊎ (m.now + l.lead < deadline) → IsQuiet p l m
     quiet-far nothing far = quiet (nothing m w deadline (record { told_apart = λ act due. word-best due.node due.best; timely = until.timely }) o.clocked (far-test far))
 
-    module _ (v : List Mark) (word : v ≡ w) (t : Latest) (latest : IsLatest p l m.now m.commits v t) where
-      here : v ≡ best.node.word
-      here = word ∙ node-word
+    -- what the code reads: the commitments and the best node's word
+    module _ (cs : List Timed) (v : List Mark) (same : cs ≡ m.commits) (word : v ≡ w) where
+      here-at : (P : List Timed → List Mark → Type 0) → P cs v → P m.commits w
+      here-at P x = subst (λ u. P m.commits u) word (subst (λ ds. P ds v) same x)
 
-      greatest : IsGreatest p l m.now m.commits best.node.word (schedule_of t)
-      greatest = subst (λ x. IsGreatest p l m.now m.commits x (schedule_of t)) here latest.greatest
+      pub none-dead : ¬ (Live p l m.now cs v) → ⊥
+      none-dead dead = here-at (λ ds u. ¬ (Live p l m.now ds u)) dead alive
 
-      pub urgent-due : (act : Timed) → IsUrgent p l m.now m.commits v (schedule_of t) act → IsDue p l m act
-      urgent-due act urgent =
-          let u : IsUrgent p l m.now m.commits best.node.word (schedule_of t) act = subst (λ x. IsUrgent p l m.now m.commits x (schedule_of t) act) here urgent in record {
-            node = best.node;
-            best = best.best;
-            live = subst (λ x. Live p l m.now m.commits x) node-word alive;
-            schedule = schedule_of t;
-            greatest = greatest;
-            next = u.next;
-            is_next = u.is_next;
-            soon = u.soon;
-            is = u.is;
-          }
+      module _ (t : Latest) (latest : IsLatest p l m.now cs v t) where
+        greatest : IsGreatest p l m.now m.commits w (schedule_of t)
+        greatest = here-at (λ ds u. IsGreatest p l m.now ds u (schedule_of t)) latest.greatest
 
-      -- an act that is due is so by each greatest schedule
-      due-urgent : (act : Timed) (due : IsDue p l m act) → IsUrgent p l m.now m.commits v (schedule_of t) (timed_act (schedule_of t) due.next)
-      due-urgent act due =
-          let same : due.node.word ≡ v = word-best due.node due.best ∙ sym word in
-          let last : IsGreatest p l m.now m.commits due.node.word (schedule_of t) = subst (λ x. IsGreatest p l m.now m.commits x (schedule_of t)) (sym same) latest.greatest in
-          let early : (schedule_of t).tick due.next.opens ≤ due.schedule.tick due.next.opens = (due.greatest.last (schedule_of t) last.is).ticks due.next.opens ((sound-acts p due.node.word due.live.sound).opens due.next (due-in p l m act due)) in
-          record {
-            next = due.next;
-            is_next = subst (λ x. candidate [] m.commits (acts_of p x) ≡ Some due.next) same due.is_next;
-            soon = omega (arith, early, due.soon);
-            is = refl;
-          }
+        pub urgent-due : (act : Timed) → IsUrgent p l m.now cs v (schedule_of t) act → IsDue p l m act
+        urgent-due act urgent =
+            let u : IsUrgent p l m.now m.commits w (schedule_of t) act = here-at (λ ds x. IsUrgent p l m.now ds x (schedule_of t) act) urgent in record {
+              node = best.node;
+              best = best.best;
+              live = subst (λ x. Live p l m.now m.commits x) node-word alive;
+              schedule = schedule_of t;
+              greatest = subst (λ x. IsGreatest p l m.now m.commits x (schedule_of t)) node-word greatest;
+              next = u.next;
+              is_next = subst (λ x. candidate [] m.commits (acts_of p x) ≡ Some u.next) node-word u.is_next;
+              soon = u.soon;
+              is = u.is;
+            }
 
-      pub quiet-urgent : ((act : Timed) → ¬ (IsUrgent p l m.now m.commits v (schedule_of t) act)) → IsQuiet p l m
-      quiet-urgent never = quiet (λ act due. never (timed_act (schedule_of t) due.next) (due-urgent act due))
+        -- an act that is due is so by each greatest schedule
+        due-urgent : (act : Timed) (due : IsDue p l m act) → IsUrgent p l m.now m.commits w (schedule_of t) (timed_act (schedule_of t) due.next)
+        due-urgent act due =
+            let here : due.node.word ≡ w = word-best due.node due.best in
+            let last : IsGreatest p l m.now m.commits due.node.word (schedule_of t) = subst (λ x. IsGreatest p l m.now m.commits x (schedule_of t)) (sym here) greatest in
+            let early : (schedule_of t).tick due.next.opens ≤ due.schedule.tick due.next.opens = (due.greatest.last (schedule_of t) last.is).ticks due.next.opens ((sound-acts p due.node.word due.live.sound).opens due.next (due-in p l m act due)) in
+            record {
+              next = due.next;
+              is_next = subst (λ x. candidate [] m.commits (acts_of p x) ≡ Some due.next) here due.is_next;
+              soon = omega (arith, early, due.soon);
+              is = refl;
+            }
+
+        pub quiet-urgent : ((act : Timed) → ¬ (IsUrgent p l m.now cs v (schedule_of t) act)) → IsQuiet p l m
+        quiet-urgent never =
+            let nothing : (act : Timed) → ¬ (IsUrgent p l m.now m.commits w (schedule_of t) act) = here-at (λ ds u. (act : Timed) → ¬ (IsUrgent p l m.now ds u (schedule_of t) act)) never in
+            quiet (λ act due. nothing (timed_act (schedule_of t) due.next) (due-urgent act due))

@@ -75,7 +75,7 @@ impl<'p> Replayer<'p> {
 
     /// Whether the least open node, which has this id, is live.
     pub(crate) fn is_live(&mut self, id: u32) -> Result<bool, NoMemory>
-        requires { IsOfBest self.old.problem (open_nodes self.old.machine.nodes) id }
+        requires least { IsOfBest self.old.problem (open_nodes self.old.machine.nodes) id }
         ensures same { self.new ≡ self.old }
         ensures yes { IfOk result (λ b. IsTrue b → Live self.old.problem self.old.limits
             self.old.machine.now self.old.machine.commits (word_of id self.old.machine.nodes)) }
@@ -83,6 +83,7 @@ impl<'p> Replayer<'p> {
             self.old.machine.now self.old.machine.commits (word_of id self.old.machine.nodes))) }
     {
         let _ = id;
+        self.keeps_order();
         let Some(least) = self.least_open() else {
             return Ok(false);
         };
