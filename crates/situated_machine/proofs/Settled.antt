@@ -1,6 +1,6 @@
 -- What the best node needs at once, by the word of its id.
-use Rattle.std.proofs.Common.{◌≡◌, refl, sym, ap, subst, ◌∙◌, ℕ, ◌+◌, ◌<◌, ◌≤◌, ◌⊎◌, inl, inr, ◌||◌, nat_le, Bool, true, false, List, [], Some, None, arith}
-use Rattle.std.proofs.lemmas.Bool.{le-leb}
+use Rattle.std.proofs.Common.{◌≡◌, refl, sym, ap, subst, ◌∙◌, ℕ, ◌+◌, ◌<◌, ◌≤◌, ◌⊎◌, inl, inr, ◌==◌, ◌||◌, ◌&&◌, nat_le, Bool, true, false, List, [], Some, None, arith}
+use Rattle.std.proofs.lemmas.Bool.{and_from, eq-eqb, le-leb}
 use Rattle.tp_spec.specs.declared.plan.Limits.{Limits}
 use Rattle.tp_spec.specs.declared.plan.Mark.{Mark}
 use Rattle.tp_spec.specs.declared.plan.Timed.{Timed}
@@ -23,6 +23,12 @@ use Rattle.situated_machine.specs.Rules.{IsOfBest}
 use Rattle.situated_machine.proofs.Deadlines.{early-live}
 use Rattle.situated_machine.proofs.Judging.{word-of}
 use Rattle.situated_machine.proofs.Single.{best-id, best-word}
+
+-- one act, part by part
+pub timed-same : (a b : Timed) → a ≡ b → (a.action == b.action && (a.start == b.start && a.length == b.length)) ≡ true
+timed-same a b e =
+    and_from _ _ (eq-eqb a.action b.action (ap (λ (c : Timed). c.action) e))
+    (and_from _ _ (eq-eqb a.start b.start (ap (λ (c : Timed). c.start) e)) (eq-eqb a.length b.length (ap (λ (c : Timed). c.length) e)))
 
 -- two best nodes have one id
 pub one-best : (p : Problem) (ns : List Node) (i j : ℕ) → IsOfBest p ns i → IsOfBest p ns j → i ≡ j
