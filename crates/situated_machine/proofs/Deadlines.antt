@@ -14,7 +14,6 @@ use Rattle.tp_laws.specs.Clocks.{IsDeadline}
 use Rattle.tp_laws.proofs.ClockCommits.{live-earlier}
 use Rattle.tp_laws.proofs.EarlyLists.{each-in, each-true}
 use Rattle.tp_laws.proofs.Members.{in-filter}
-use Rattle.run_laws.specs.Commitments.{AreCommitted}
 use Rattle.run_laws.specs.Histories.{is_below}
 use Rattle.word_frontier.specs.declared.frontier.Standing.{Standing}
 use Rattle.word_frontier.specs.Nodes.{NodeView, RankedNode, FrontierView, GivesLeast, IsCopy, Tells, renewed}
@@ -23,7 +22,7 @@ use Rattle.word_network.specs.Conditions.{AreCommits, AreLimits}
 use Rattle.machine_run.specs.Frontiers.{IsFrontierOf, plain_node}
 use Rattle.machine_run.proofs.Frontiers.{frontier-renew, least-best, least-open-best, opened, stands-in, told-all, told-in}
 use Rattle.machine_run.proofs.Taking.{has-id}
-use Rattle.situated_machine.specs.Deadlines.{FindsBest, IsDeadlineIn, IsLiveIn, IsToldOf, word_in}
+use Rattle.situated_machine.specs.Deadlines.{FindsBest, IsDeadlineIn, IsToldOf}
 use Rattle.situated_machine.specs.Keeping.{ReplayParts, ReplayView, IsKept, machine_of, view_of}
 use Rattle.situated_machine.specs.Laws.{IsOrderly}
 use Rattle.situated_machine.specs.Rules.{IsOfBest, has_id}

@@ -1,14 +1,13 @@
 -- What the best node needs at once, by the word of its id.
-use Rattle.std.proofs.Common.{◌≡◌, refl, sym, ap, subst, ◌∙◌, ℕ, ◌+◌, ◌<◌, ◌≤◌, ◌⊎◌, inl, inr, ◌==◌, ◌||◌, ◌&&◌, nat_le, Bool, true, false, List, [], Some, None, arith}
+use Rattle.std.proofs.Common.{◌≡◌, refl, sym, ap, subst, ◌∙◌, ℕ, ◌+◌, ◌<◌, ◌≤◌, ◌⊎◌, inl, inr, ◌==◌, ◌||◌, ◌&&◌, nat_le, Bool, true, false, List, [], Some, arith}
 use Rattle.std.proofs.lemmas.Bool.{and_from, eq-eqb, le-leb}
 use Rattle.tp_spec.specs.declared.plan.Limits.{Limits}
 use Rattle.tp_spec.specs.declared.plan.Mark.{Mark}
 use Rattle.tp_spec.specs.declared.plan.Timed.{Timed}
 use Rattle.tp_spec.specs.declared.problem.Problem.{Problem}
-use Rattle.tp_spec.specs.Machine.{Machine, Node, IsBest, IsDue, IsQuiet, candidate, word_of}
-use Rattle.tp_spec.specs.Schedules.{Schedule, Live, IsGreatest, timed_act}
-use Rattle.tp_spec.specs.Words.{Sound, acts_of}
-use Rattle.tp_laws.specs.Clocks.{IsDeadline}
+use Rattle.tp_spec.specs.Machine.{Machine, Node, IsBest, IsDue, IsQuiet, candidate}
+use Rattle.tp_spec.specs.Schedules.{Live, IsGreatest, timed_act}
+use Rattle.tp_spec.specs.Words.{acts_of}
 use Rattle.tp_laws.proofs.ClockActs.{sound-acts}
 use Rattle.run_laws.specs.Commitments.{NothingIsDue}
 use Rattle.run_laws.proofs.Dispatching.{due-in}

@@ -1,4 +1,4 @@
-use Rattle.std.proofs.Common.{◌≡◌, subst}
+use Rattle.std.proofs.Common.{subst}
 use Rattle.situated_machine.specs.Deadlines.{FindsBest}
 use Rattle.situated_machine.specs.Keeping.{ReplayView}
 use Rattle.situated_machine.proofs.Deadlines.{finds-best}

@@ -1,4 +1,4 @@
-use Rattle.std.proofs.Common.{◌≡◌, ◌+◌, ◌<◌, ◌^◌, ◌⊎◌, inl, inr, sym, subst, ◌∙◌, true, length, IfSome, IfNone}
+use Rattle.std.proofs.Common.{◌+◌, ◌<◌, ◌^◌, ◌⊎◌, inl, inr, sym, subst, ◌∙◌, length, IfSome, IfNone}
 use Rattle.std.proofs.lemmas.Option.{IfSome_then}
 use Rattle.tp_spec.specs.Machine.{IsDue, IsQuiet}
 use Rattle.tp_spec.specs.Schedules.{Live}
@@ -9,7 +9,7 @@ use Rattle.machine_run.proofs.Dispatching.{none-then}
 use Rattle.situated_machine.specs.Deadlines.{IsLiveUntil}
 use Rattle.situated_machine.specs.Keeping.{ReplayView}
 use Rattle.situated_machine.specs.Rules.{IsOfBest}
-use Rattle.situated_machine.proofs.Deadlines.{best-has, commits-fit, copy-word, copy-sound, copy-few, kept-id}
+use Rattle.situated_machine.proofs.Deadlines.{best-has, commits-fit, copy-word, copy-sound, copy-few}
 use Rattle.situated_machine.proofs.Settled.{none-dead, quiet-far, quiet-urgent, urgent-due}
 use Rattle.situated_machine.proofs.keeping.Replayer.due_act.Goals.{then-deadline-self-via-then-deadline-self, then-deadline-self-via-else-deadline-self+then-deadline-self-2}
 use Rattle.situated_machine.proofs.keeping.Replayer.due_act.Goals as goal

@@ -1,4 +1,4 @@
-use Rattle.std.proofs.Common.{◌≡◌, sym, subst, IfSome, IfNone}
+use Rattle.std.proofs.Common.{sym, subst, IfSome, IfNone}
 use Rattle.situated_machine.specs.Deadlines.{IsLiveIn, IsLiveUntil}
 use Rattle.situated_machine.proofs.Deadlines.{early-live}
 use Rattle.situated_machine.proofs.Settled.{one-best}

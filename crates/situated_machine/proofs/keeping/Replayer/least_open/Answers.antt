@@ -1,4 +1,4 @@
-use Rattle.std.proofs.Common.{◌≡◌, subst}
+use Rattle.std.proofs.Common.{subst}
 use Rattle.tp_spec.specs.Machine.{open_nodes}
 use Rattle.situated_machine.specs.Deadlines.{FindsBest}
 use Rattle.situated_machine.specs.Keeping.{ReplayView}

@@ -1,4 +1,4 @@
-use Rattle.std.proofs.Common.{◌≡◌, sym, subst, ◌∙◌, IfSome}
+use Rattle.std.proofs.Common.{sym, subst, ◌∙◌, IfSome}
 use Rattle.situated_machine.specs.Deadlines.{IsDeadlineIn, IsLiveIn}
 use Rattle.situated_machine.specs.Keeping.{ReplayView}
 use Rattle.situated_machine.proofs.Deadlines.{late-dead}

@@ -1,4 +1,4 @@
-use Rattle.std.proofs.Common.{◌≡◌, subst, IfNone}
+use Rattle.std.proofs.Common.{subst, IfNone}
 use Rattle.situated_machine.specs.Deadlines.{IsLiveIn}
 use Rattle.situated_machine.proofs.Settled.{dead-best}
 use Rattle.situated_machine.proofs.keeping.Replayer.next.Goals as goal
