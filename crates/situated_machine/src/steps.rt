@@ -55,7 +55,12 @@ impl<'p> Replayer<'p> {
     }
 
     /// The children of a node that an actor took come in its place.
-    pub(crate) fn expand(&mut self, actor: u32, id: u32, children: &[Child]) -> Result<(), NoMemory>
+    pub(crate) fn expand(
+        &mut self,
+        actor: u32,
+        id: u32,
+        children: &[Child],
+    ) -> Result<(), NoMemory>
         requires children { AreChildrenOf self.old (word_of id self.old.machine.nodes)
             children.now }
         requires kept { KeepsAll self.old.problem self.old.limits self.old.machine
