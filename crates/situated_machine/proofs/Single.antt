@@ -106,7 +106,7 @@ best-id p ns a b h k =
     (each-in (λ n. no_worse p a n ≡ true) ns b (each-true (no_worse p a) ns h.least) k.there)
     (each-in (λ n. no_worse p b n ≡ true) ns a (each-true (no_worse p b) ns k.least) h.there)
 
-best-word : (p : Problem) (ns : List Node) → each_pair (λ a b. not (a.id == b.id)) ns ≡ true → (a b : Node) → IsBest p ns a → IsBest p ns b → a.word ≡ b.word
+pub best-word : (p : Problem) (ns : List Node) → each_pair (λ a b. not (a.id == b.id)) ns ≡ true → (a b : Node) → IsBest p ns a → IsBest p ns b → a.word ≡ b.word
 best-word p ns apart a b h k =
     sym (word_of-in b.id a ns apart h.there (eq-eqb a.id b.id (best-id p ns a b h k))) ∙ word_of-in b.id b ns apart k.there (eq-eqb b.id b.id refl)
 

@@ -1,5 +1,6 @@
 pub mod Rules
 pub mod Keeping
+pub mod Deadlines
 pub mod Judged
 pub mod Replays
 pub mod Laws

@@ -1,11 +1,14 @@
-ghost use Rattle.std.specs.Prelude.{◌≡◌, ◌≤◌, false, IsTrue, IfOk, IfSome, IfNone};
+ghost use Rattle.std.specs.Prelude.{◌≡◌, length, false, IsTrue, IfOk, IfSome, IfNone};
+ghost use Rattle.situated_machine.specs.Deadlines.{FindsBest, IsDeadlineIn, IsLiveIn, IsLiveUntil, IsToldOf};
 ghost use Rattle.situated_machine.specs.Judged.{IsNext};
-ghost use Rattle.situated_machine.specs.Rules.{IsOfBest};
-ghost use Rattle.tp_spec.specs.Machine.{IsDue, IsSettled, open_nodes, word_of};
+ghost use Rattle.situated_machine.specs.Laws.{IsOrderly};
+ghost use Rattle.situated_machine.specs.Rules.{IsOfBest, has_id};
+ghost use Rattle.tp_spec.specs.Machine.{IsDue, IsQuiet, IsSettled, open_nodes, word_of};
 ghost use Rattle.tp_spec.specs.Schedules.{Live};
 
 use crate::keeping::Replayer;
 use commit_book::urgent;
+use run_laws::deadlines_and_dispatches;
 use tp_spec::{NoMemory, Timed};
 use word_frontier::Standing;
 use word_network::{deadline, latest_schedule};
@@ -25,7 +28,8 @@ impl<'p> Replayer<'p> {
         ensures same { self.new ≡ self.old }
         ensures next { IfOk result (IsNext self.old) }
     {
-        let Some(best) = self.frontier.best() else {
+        self.keeps_order();
+        let Some(best) = self.best() else {
             return Ok(Next::Dead);
         };
         let Some(deadline) = self.live_deadline(best)? else {
@@ -61,6 +65,7 @@ impl<'p> Replayer<'p> {
         ensures no { IfOk result (λ b. b ≡ false
             → ¬ (IsDue self.old.problem self.old.limits self.old.machine act)) }
     {
+        self.keeps_order();
         match self.next()? {
             Next::Dead => Ok(false),
             Next::Due(found) => Ok(found == act),
@@ -70,7 +75,7 @@ impl<'p> Replayer<'p> {
 
     /// Whether the least open node, which has this id, is live.
     pub(crate) fn is_live(&mut self, id: u32) -> Result<bool, NoMemory>
-        requires { IsOfBest self.old.problem (open_nodes self.old.machine.nodes) id }
+        requires least { IsOfBest self.old.problem (open_nodes self.old.machine.nodes) id }
         ensures same { self.new ≡ self.old }
         ensures yes { IfOk result (λ b. IsTrue b → Live self.old.problem self.old.limits
             self.old.machine.now self.old.machine.commits (word_of id self.old.machine.nodes)) }
@@ -78,7 +83,8 @@ impl<'p> Replayer<'p> {
             self.old.machine.now self.old.machine.commits (word_of id self.old.machine.nodes))) }
     {
         let _ = id;
-        let Some(least) = self.frontier.least_open() else {
+        self.keeps_order();
+        let Some(least) = self.least_open() else {
             return Ok(false);
         };
         match self.live_deadline(least)? {
@@ -87,11 +93,44 @@ impl<'p> Replayer<'p> {
         }
     }
 
+    /// What a state keeps to which a history leads that breaks no rule.
+    fn keeps_order(&self)
+        ensures { IsOrderly self.now.problem self.now.limits self.now.machine }
+    {
+        // reading a field opens the invariant, which says it
+        let _over = self.over;
+    }
+
+    /// The node of the least rank and id, open or taken, if any stands.
+    fn best(&self) -> Option<Standing>
+        ensures { FindsBest self.now self.now.machine.nodes result }
+    {
+        self.frontier.best()
+    }
+
+    /// The open node of the least rank and id, if any is open.
+    fn least_open(&self) -> Option<Standing>
+        ensures { FindsBest self.now (open_nodes self.now.machine.nodes) result }
+    {
+        self.frontier.least_open()
+    }
+
+    /// How many commitments there are.
+    fn known(&self) -> u8
+        ensures { result ≡ length self.now.machine.commits }
+    {
+        self.commits.acts().len() as u8
+    }
 
     /// The deadline of a node that stands, in ticks and under all commitments, where it has not
     /// passed. None exactly where the node's word is dead at the machine's clock. A deadline that
     /// was found under fewer commitments is found anew, and kept.
-    fn live_deadline(&mut self, node: Standing) -> Result<Option<u64>, NoMemory> {
+    fn live_deadline(&mut self, node: Standing) -> Result<Option<u64>, NoMemory>
+        requires told { IsToldOf self.old node }
+        ensures same { self.new ≡ self.old }
+        ensures some { IfOk result (λ r. IfSome r (IsLiveUntil self.old node.id)) }
+        ensures none { IfOk result (λ r. IfNone r (¬ (IsLiveIn self.old node.id))) }
+    {
         let Some(deadline) = self.renewed_deadline(node)? else {
             return Ok(None);
         };
@@ -101,10 +140,15 @@ impl<'p> Replayer<'p> {
         Ok(Some(deadline))
     }
 
-    /// The deadline of the word of a node that stands under all commitments, which is kept with it;
-    /// none where its word is live at no clock.
-    fn renewed_deadline(&mut self, node: Standing) -> Result<Option<u64>, NoMemory> {
-        let known = self.commits.acts().len() as u8;
+    /// The deadline of a node that stands under all commitments, which is kept with it; none where
+    /// its word is live at no clock.
+    fn renewed_deadline(&mut self, node: Standing) -> Result<Option<u64>, NoMemory>
+        requires told { IsToldOf self.old node }
+        ensures same { self.new ≡ self.old }
+        ensures some { IfOk result (λ r. IfSome r (IsDeadlineIn self.old node.id)) }
+        ensures none { IfOk result (λ r. IfNone r (¬ (IsLiveIn self.old node.id))) }
+    {
+        let known = self.known();
         if node.known == known {
             return Ok(Some(node.deadline));
         }
@@ -119,7 +163,11 @@ impl<'p> Replayer<'p> {
 
     /// The deadline of the word of a node that stands, under all commitments; none where the word
     /// is live at no clock.
-    fn found_deadline(&self, id: u32) -> Result<Option<u64>, NoMemory> {
+    fn found_deadline(&self, id: u32) -> Result<Option<u64>, NoMemory>
+        requires there { IsTrue (has_id id self.now.machine.nodes) }
+        ensures some { IfOk result (λ r. IfSome r (IsDeadlineIn self.now id)) }
+        ensures none { IfOk result (λ r. IfNone r (¬ (IsLiveIn self.now id))) }
+    {
         let node = self.frontier.copy_of(self.alloc, id)?;
         deadline(
             self.alloc,
@@ -132,8 +180,17 @@ impl<'p> Replayer<'p> {
 
     /// The act that is due of the best node, whose deadline has not passed: the first start of its
     /// word that is no commitment, where the greatest schedule has it at most the lead ahead of the
-    /// clock. This start stands at the deadline, so most nodes need no schedule.
-    fn due_act(&self, id: u32, deadline: u64) -> Result<Option<Timed>, NoMemory> {
+    /// clock. This start stands at the deadline, so most nodes need no schedule. None exactly where
+    /// the machine needs nothing at once.
+    fn due_act(&self, id: u32, deadline: u64) -> Result<Option<Timed>, NoMemory>
+        requires best { IsOfBest self.now.problem self.now.machine.nodes id }
+        requires live { IsLiveUntil self.now id deadline }
+        ensures some { IfOk result (λ r. IfSome r (IsDue self.now.problem self.now.limits
+            self.now.machine)) }
+        ensures none { IfOk result (λ r. IfNone r (IsQuiet self.now.problem self.now.limits
+            self.now.machine)) }
+    {
+        deadlines_and_dispatches();
         if deadline > self.limits.horizon || deadline > self.clock + self.limits.lead {
             return Ok(None);
         }
