@@ -1,5 +1,6 @@
-ghost use Rattle.std.specs.Prelude.{◌≡◌, ◌<◌, ◌^◌, IfOk, length};
-ghost use Rattle.situated_machine.specs.Judged.{IsJudged};
+ghost use Rattle.std.specs.Prelude.{◌≡◌, ◌<◌, ◌+◌, ◌^◌, false, nat_lt, IfOk, IfNone, IfSome, IsTrue, length};
+ghost use Rattle.machine_run.specs.Children.{marks_of};
+ghost use Rattle.situated_machine.specs.Judged.{BreaksWork, IsJudged, MayWorkOn};
 ghost use Rattle.situated_machine.specs.Replays.{IsReplay};
 ghost use Rattle.tp_spec.specs.declared.event.Event.{Event as AnEvent};
 ghost use Rattle.tp_spec.specs.WellFormed.{IsWellFormed};
@@ -8,7 +9,7 @@ ghost use Rattle.word_network.specs.Conditions.{AreLimits};
 use crate::keeping::Replayer;
 use crate::replayed::{Replayed, Rule};
 use std::alloc::Global;
-use tp_spec::{Event, Limits, List, Mark, NoMemory, Problem, Timed};
+use tp_spec::{Cause, Event, Limits, Mark, NoMemory, Plan, Problem, Timed};
 use word_frontier::Child;
 
 /// Judges a history by the rules of the situated machine that can be judged event by event: the
@@ -112,7 +113,11 @@ impl<'p> Replayer<'p> {
 
     /// The first rule that a deed on a node that its actor took breaks, of those of outcomes, turns
     /// and ids.
-    fn judge_deed(&self, actor: u32, id: u32) -> Option<Rule> {
+    fn judge_deed(&self, actor: u32, id: u32) -> Option<Rule>
+        ensures none { IfNone result (MayWorkOn self.now.machine actor id) }
+        ensures some { IfSome result (BreaksWork self.now.problem self.now.limits self.now.machine
+            actor id) }
+    {
         if self.is_over() {
             return Some(Rule::Outcome);
         }
@@ -176,7 +181,89 @@ impl<'p> Replayer<'p> {
         self.expand(actor, id, children.as_slice())?;
         Ok(None)
     }
-    // judge_publish, judge_limit, judge_exhaust, judge_halt in the same way
+
+    fn judge_publish(
+        &mut self,
+        actor: u32,
+        id: u32,
+        plan: &Plan,
+    ) -> Result<Option<Rule>, NoMemory>
+        ensures { IfOk result (IsJudged self.old self.new (AnEvent.Publish actor id plan.now)) }
+    {
+        if let Some(rule) = self.judge_deed(actor, id) {
+            return Ok(Some(rule));
+        }
+        if !self.is_plan(id, plan)? {
+            return Ok(Some(Rule::Plan));
+        }
+        if !self.is_settled()? {
+            return Ok(Some(Rule::Early));
+        }
+        self.publish(actor, id);
+        Ok(None)
+    }
+
+    fn judge_limit(
+        &mut self,
+        actor: u32,
+        id: u32,
+        made: u32,
+        marks: u32,
+    ) -> Result<Option<Rule>, NoMemory>
+        ensures { IfOk result (IsJudged self.old self.new (AnEvent.Limit actor id made marks)) }
+    {
+        if let Some(rule) = self.judge_deed(actor, id) {
+            return Ok(Some(rule));
+        }
+        let Some(children) = self.children(id)? else {
+            return Ok(Some(Rule::Marks));
+        };
+        let found = children.as_slice().len();
+        if made != self.made() || marks as usize != found || !self.is_full(found) {
+            return Ok(Some(Rule::Number));
+        }
+        if !self.is_settled()? {
+            return Ok(Some(Rule::Early));
+        }
+        self.limit(actor, id, made, marks);
+        Ok(None)
+    }
+
+    fn judge_exhaust(&mut self) -> Option<Rule>
+        ensures { IsJudged self.old self.new AnEvent.Exhaust result }
+    {
+        if self.is_over() {
+            return Some(Rule::Outcome);
+        }
+        if !self.has_turn() {
+            return Some(Rule::Turn);
+        }
+        if !self.is_empty() {
+            return Some(Rule::Early);
+        }
+        self.exhaust();
+        None
+    }
+
+    fn judge_halt(&mut self, cause: Cause) -> Result<Option<Rule>, NoMemory>
+        ensures { IfOk result (IsJudged self.old self.new (AnEvent.Halt cause)) }
+    {
+        if self.is_over() {
+            return Ok(Some(Rule::Outcome));
+        }
+        if !self.is_settled()? {
+            return Ok(Some(Rule::Early));
+        }
+        self.halt(cause);
+        Ok(None)
+    }
+
+    /// Whether with so many marks more there would be more ids than there may be.
+    fn is_full(&self, marks: usize) -> bool
+        ensures { result ≡ nat_lt self.now.limits.nodes (self.now.machine.made + marks) }
+    {
+        (self.made() as usize).saturating_add(marks) > self.most_ids() as usize
+    }
 }
 
 /// Whether children have just these marks, in order.
@@ -184,5 +271,13 @@ fn have_marks(children: &[Child], marks: &[Mark]) -> bool
     ensures yes { IsTrue result → marks_of children.now ≡ marks.now }
     ensures no { result ≡ false → ¬ (marks_of children.now ≡ marks.now) }
 {
-    todo
+    if children.len() != marks.len() {
+        return false;
+    }
+    for i in 0..marks.len() {
+        if children[i].mark != marks[i] {
+            return false;
+        }
+    }
+    true
 }

