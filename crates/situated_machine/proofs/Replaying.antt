@@ -2,19 +2,22 @@
 use Rattle.std.proofs.Common.{◌≡◌, refl, sym, ap, subst, ◌∙◌, ℕ, zero, suc, ◌+◌, ◌<◌, ◌≤◌, Bool, true, false, List, [], ◌∷◌, ◌++◌, length, get_or, take, drop, arith}
 use Rattle.std.proofs.Math.Seq.{drop-cons, take-length}
 use Rattle.std.proofs.lemmas.Bool.{false≢true}
-use Rattle.std.proofs.lemmas.List.{take_more, take-append-drop, length-take-le}
+use Rattle.std.proofs.lemmas.List.{get_or-map, length-map, length-take-le, map-append, take_all, take_more, take-append-drop}
 use Rattle.tp_spec.specs.declared.event.Event.{Event}
 use Rattle.tp_spec.specs.declared.event.Event.TheVariants.{Tick, Drop, Dispatch, Take, Expand, Publish, Limit, Exhaust, Halt}
 use Rattle.tp_spec.specs.declared.plan.Limits.{Limits}
+use Rattle.tp_spec.specs.declared.plan.Mark.{Mark}
 use Rattle.tp_spec.specs.declared.problem.Problem.{Problem}
 use Rattle.tp_spec.specs.Machine.{Machine, end_of, first, step}
 use Rattle.run_laws.proofs.Runs.{end-append}
+use Rattle.word_frontier.specs.declared.child.Child.{Child}
+use Rattle.machine_run.specs.Children.{marks_of}
 use Rattle.situated_machine.specs.declared.replayed.Rule.{Rule}
 use Rattle.situated_machine.specs.declared.replayed.Rule.TheVariants as rules
 use Rattle.situated_machine.specs.Keeping.{ReplayView}
 use Rattle.situated_machine.specs.Rules.{KeepsAll, MayMakeDeed, has_id, taken_nodes}
 use Rattle.situated_machine.specs.Replays.{AreKept, IsBrokenAt, IsReplay}
-use Rattle.situated_machine.specs.Judged.{BreaksAt, BreaksWork, Follows, IsWorkOn, KeepsEach}
+use Rattle.situated_machine.specs.Judged.{BreaksAt, BreaksWork, Follows, IsWorkOn, KeepsEach, Steps}
 use Rattle.situated_machine.proofs.Firsts.{breaks, each-all}
 
 pub kept-append : (p : Problem) (l : Limits) (m : Machine) (es fs : List Event) → AreKept p l m es → AreKept p l (end_of l m es) fs → AreKept p l m (es ++ fs)
@@ -96,3 +99,36 @@ module _ (p : Problem) (l : Limits) (m : Machine) (actor id : ℕ) where
   work-id over turn no (Limit a i made marks) w = (((tt, over), subst (MayMakeDeed m) (sym w.0) turn), λ k. false≢true (sym no ∙ taken a i w k))
   work-id over turn no Exhaust w = absurd w
   work-id over turn no (Halt cause) w = absurd w
+
+-- the marks of children against others, one by one
+
+module _ (children : List Child) (marks : List Mark) (i : ℕ) (c : Child) (m : Mark) (lc : i < length children) (lm : i < length marks) where
+  pub marks-more : marks_of (take i children) ≡ take i marks → (get_or children i c).mark ≡ get_or marks i m → marks_of (take (i + 1) children) ≡ take (i + 1) marks
+  marks-more h e =
+      ap marks_of (take_more children i c lc)
+      ∙ map-append (λ (x : Child). x.mark) (take i children) (get_or children i c ∷ [])
+      ∙ (λ t. h t ++ e t ∷ [])
+      ∙ sym (take_more marks i m lm)
+
+  pub marks-differ : ¬ ((get_or children i c).mark ≡ get_or marks i m) → ¬ (marks_of children ≡ marks)
+  marks-differ no e = no (sym (get_or-map (λ (x : Child). x.mark) children i c m lc) ∙ ap (λ xs. get_or xs i m) e)
+
+pub counts-differ : (children : List Child) (marks : List Mark) → ¬ (length children ≡ length marks) → ¬ (marks_of children ≡ marks)
+counts-differ children marks no e = no (sym (length-map (λ (x : Child). x.mark) children) ∙ ap {B = ℕ} length e)
+
+pub marks-all : (children : List Child) (marks : List Mark) (i : ℕ) → length children ≤ i → length marks ≤ i → marks_of (take i children) ≡ take i marks → marks_of children ≡ marks
+marks-all children marks i lc lm h = ap marks_of (sym (take_all i children lc)) ∙ h ∙ take_all i marks lm
+
+-- a step from a view that is the old one
+
+pub steps-follow : (old mid new : ReplayView) (e : Event) → mid ≡ old → KeepsEach old.problem old.limits old.machine e → Steps mid new e → Follows old new e
+steps-follow old mid new e same k s = record { problem = here.problem; limits = here.limits; kept = k; stepped = here.stepped }
+  where
+    here : Steps old new e
+    here = subst (λ r. Steps r new e) same s
+
+pub keeps-here : (old mid : ReplayView) (e : Event) → mid ≡ old → KeepsEach old.problem old.limits old.machine e → KeepsAll mid.problem mid.limits mid.machine e
+keeps-here old mid e same k = each-all mid.problem mid.limits mid.machine e (subst (λ (r : ReplayView). KeepsEach r.problem r.limits r.machine e) (sym same) k)
+
+pub not-false : (b c : Bool) → b ≡ c → b ≡ true → ¬ (c ≡ false)
+not-false b c e h k = false≢true (sym k ∙ sym e ∙ h)

@@ -182,12 +182,7 @@ impl<'p> Replayer<'p> {
         Ok(None)
     }
 
-    fn judge_publish(
-        &mut self,
-        actor: u32,
-        id: u32,
-        plan: &Plan,
-    ) -> Result<Option<Rule>, NoMemory>
+    fn judge_publish(&mut self, actor: u32, id: u32, plan: &Plan) -> Result<Option<Rule>, NoMemory>
         ensures { IfOk result (IsJudged self.old self.new (AnEvent.Publish actor id plan.now)) }
     {
         if let Some(rule) = self.judge_deed(actor, id) {

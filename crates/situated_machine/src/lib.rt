@@ -12,8 +12,8 @@ mod quiet;
 mod replayed;
 mod steps;
 
-pub use judge::replay;
 pub use examples::{events_out_of_place, replayed_runs, wrong_deeds, wrong_takes};
+pub use judge::replay;
 pub use laws::{
     answers_to_runs, one_answer, rules_and_runs, states_of_kept_histories, what_rules_ask_is_one,
 };

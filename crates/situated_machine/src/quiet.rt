@@ -87,7 +87,6 @@ impl<'p> Replayer<'p> {
         }
     }
 
-
     /// The deadline of a node that stands, in ticks and under all commitments, where it has not
     /// passed. None exactly where the node's word is dead at the machine's clock. A deadline that
     /// was found under fewer commitments is found anew, and kept.
