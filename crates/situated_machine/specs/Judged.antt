@@ -56,8 +56,8 @@ abbrev pub IsJudged : ReplayView → ReplayView → Event → Option Rule → Ty
 IsJudged old new e None = Follows old new e
 IsJudged old new e (Some rule) = BreaksAt old.problem old.limits old.machine e rule
 
--- the actor may make a deed on this node: no outcome stands, it is the actor's turn, in which it made
--- no deed, and it took the node
+-- The actor may make a deed on this node: no outcome stands, it is the actor's turn, without a deed
+-- so far, and the actor took the node.
 pub record MayWorkOn (m : Machine) (actor id : ℕ) : Type 0 where
   pub standing : m.over ≡ false
   pub turn : MayMakeDeed m actor
