@@ -1,5 +1,5 @@
 -- What a replay keeps as it goes: behind so many events the state to which they lead, and that none of them broke a rule.
-use Rattle.std.proofs.Common.{◌≡◌, refl, sym, ap, subst, ◌∙◌, ℕ, zero, suc, ◌+◌, ◌<◌, ◌≤◌, Bool, true, false, List, [], ◌∷◌, ◌++◌, length, get_or, take, drop, arith}
+use Rattle.std.proofs.Common.{◌≡◌, refl, sym, ap, subst, ◌∙◌, ℕ, zero, suc, ◌+◌, ◌<◌, ◌≤◌, Bool, true, false, cond, ◌==◌, ◌||◌, List, [], ◌∷◌, ◌++◌, length, get_or, take, drop, arith}
 use Rattle.std.proofs.Math.Seq.{drop-cons, take-length}
 use Rattle.std.proofs.lemmas.Bool.{false≢true}
 use Rattle.std.proofs.lemmas.List.{get_or-map, length-map, length-take-le, map-append, take_all, take_more, take-append-drop}
@@ -8,14 +8,14 @@ use Rattle.tp_spec.specs.declared.event.Event.TheVariants.{Tick, Drop, Dispatch,
 use Rattle.tp_spec.specs.declared.plan.Limits.{Limits}
 use Rattle.tp_spec.specs.declared.plan.Mark.{Mark}
 use Rattle.tp_spec.specs.declared.problem.Problem.{Problem}
-use Rattle.tp_spec.specs.Machine.{Machine, end_of, first, step}
+use Rattle.tp_spec.specs.Machine.{Machine, Node, end_of, first, step}
 use Rattle.run_laws.proofs.Runs.{end-append}
 use Rattle.word_frontier.specs.declared.child.Child.{Child}
 use Rattle.machine_run.specs.Children.{marks_of}
 use Rattle.situated_machine.specs.declared.replayed.Rule.{Rule}
 use Rattle.situated_machine.specs.declared.replayed.Rule.TheVariants as rules
 use Rattle.situated_machine.specs.Keeping.{ReplayView}
-use Rattle.situated_machine.specs.Rules.{KeepsAll, MayMakeDeed, has_id, taken_nodes}
+use Rattle.situated_machine.specs.Rules.{KeepsAll, MayMakeDeed, has_id, is_taken_by, taken_nodes}
 use Rattle.situated_machine.specs.Replays.{AreKept, IsBrokenAt, IsReplay}
 use Rattle.situated_machine.specs.Judged.{BreaksAt, BreaksWork, Follows, IsWorkOn, KeepsEach, Steps}
 use Rattle.situated_machine.proofs.Firsts.{breaks, each-all}
@@ -73,32 +73,32 @@ behind-all p l history i r e b = subst (AreKept p l first) (ap (λ n. take n his
 
 module _ (p : Problem) (l : Limits) (m : Machine) (actor id : ℕ) where
   pub work-over : ¬ (m.over ≡ false) → BreaksWork p l m actor id rules.Outcome
-  work-over no e w = (tt, no)
+  work-over fails e w = (tt, fails)
 
   pub work-turn : m.over ≡ false → ¬ (MayMakeDeed m actor) → BreaksWork p l m actor id rules.Turn
-  work-turn over no (Tick a reading) w = absurd w
-  work-turn over no (Drop i) w = absurd w
-  work-turn over no (Dispatch act) w = absurd w
-  work-turn over no (Take a i) w = absurd w
-  work-turn over no (Expand a i marks) w = ((tt, over), λ k. no (subst (MayMakeDeed m) w.0 k))
-  work-turn over no (Publish a i plan) w = ((tt, over), λ k. no (subst (MayMakeDeed m) w.0 k))
-  work-turn over no (Limit a i made marks) w = ((tt, over), λ k. no (subst (MayMakeDeed m) w.0 k))
-  work-turn over no Exhaust w = absurd w
-  work-turn over no (Halt cause) w = absurd w
+  work-turn over fails (Tick a reading) w = absurd w
+  work-turn over fails (Drop i) w = absurd w
+  work-turn over fails (Dispatch act) w = absurd w
+  work-turn over fails (Take a i) w = absurd w
+  work-turn over fails (Expand a i marks) w = ((tt, over), λ k. fails (subst (MayMakeDeed m) w.0 k))
+  work-turn over fails (Publish a i plan) w = ((tt, over), λ k. fails (subst (MayMakeDeed m) w.0 k))
+  work-turn over fails (Limit a i made marks) w = ((tt, over), λ k. fails (subst (MayMakeDeed m) w.0 k))
+  work-turn over fails Exhaust w = absurd w
+  work-turn over fails (Halt cause) w = absurd w
 
   taken : (a i : ℕ) → (a ≡ actor) × (i ≡ id) → has_id i (taken_nodes a m.nodes) ≡ true → has_id id (taken_nodes actor m.nodes) ≡ true
   taken a i w k = subst (λ x. has_id x (taken_nodes actor m.nodes) ≡ true) w.1 (subst (λ x. has_id i (taken_nodes x m.nodes) ≡ true) w.0 k)
 
   pub work-id : m.over ≡ false → MayMakeDeed m actor → has_id id (taken_nodes actor m.nodes) ≡ false → BreaksWork p l m actor id rules.Id
-  work-id over turn no (Tick a reading) w = absurd w
-  work-id over turn no (Drop i) w = absurd w
-  work-id over turn no (Dispatch act) w = absurd w
-  work-id over turn no (Take a i) w = absurd w
-  work-id over turn no (Expand a i marks) w = (((tt, over), subst (MayMakeDeed m) (sym w.0) turn), λ k. false≢true (sym no ∙ taken a i w k))
-  work-id over turn no (Publish a i plan) w = (((tt, over), subst (MayMakeDeed m) (sym w.0) turn), λ k. false≢true (sym no ∙ taken a i w k))
-  work-id over turn no (Limit a i made marks) w = (((tt, over), subst (MayMakeDeed m) (sym w.0) turn), λ k. false≢true (sym no ∙ taken a i w k))
-  work-id over turn no Exhaust w = absurd w
-  work-id over turn no (Halt cause) w = absurd w
+  work-id over turn fails (Tick a reading) w = absurd w
+  work-id over turn fails (Drop i) w = absurd w
+  work-id over turn fails (Dispatch act) w = absurd w
+  work-id over turn fails (Take a i) w = absurd w
+  work-id over turn fails (Expand a i marks) w = (((tt, over), subst (MayMakeDeed m) (sym w.0) turn), λ k. false≢true (sym fails ∙ taken a i w k))
+  work-id over turn fails (Publish a i plan) w = (((tt, over), subst (MayMakeDeed m) (sym w.0) turn), λ k. false≢true (sym fails ∙ taken a i w k))
+  work-id over turn fails (Limit a i made marks) w = (((tt, over), subst (MayMakeDeed m) (sym w.0) turn), λ k. false≢true (sym fails ∙ taken a i w k))
+  work-id over turn fails Exhaust w = absurd w
+  work-id over turn fails (Halt cause) w = absurd w
 
 -- the marks of children against others, one by one
 
@@ -111,10 +111,10 @@ module _ (children : List Child) (marks : List Mark) (i : ℕ) (c : Child) (m : 
       ∙ sym (take_more marks i m lm)
 
   pub marks-differ : ¬ ((get_or children i c).mark ≡ get_or marks i m) → ¬ (marks_of children ≡ marks)
-  marks-differ no e = no (sym (get_or-map (λ (x : Child). x.mark) children i c m lc) ∙ ap (λ xs. get_or xs i m) e)
+  marks-differ fails e = fails (sym (get_or-map (λ (x : Child). x.mark) children i c m lc) ∙ ap (λ xs. get_or xs i m) e)
 
 pub counts-differ : (children : List Child) (marks : List Mark) → ¬ (length children ≡ length marks) → ¬ (marks_of children ≡ marks)
-counts-differ children marks no e = no (sym (length-map (λ (x : Child). x.mark) children) ∙ ap {B = ℕ} length e)
+counts-differ children marks fails e = fails (sym (length-map (λ (x : Child). x.mark) children) ∙ ap {B = ℕ} length e)
 
 pub marks-all : (children : List Child) (marks : List Mark) (i : ℕ) → length children ≤ i → length marks ≤ i → marks_of (take i children) ≡ take i marks → marks_of children ≡ marks
 marks-all children marks i lc lm h = ap marks_of (sym (take_all i children lc)) ∙ h ∙ take_all i marks lm
@@ -132,3 +132,14 @@ keeps-here old mid e same k = each-all mid.problem mid.limits mid.machine e (sub
 
 pub not-false : (b c : Bool) → b ≡ c → b ≡ true → ¬ (c ≡ false)
 not-false b c e h k = false≢true (sym k ∙ sym e ∙ h)
+
+-- a node that an actor took stands
+pub taken-stands : (id actor : ℕ) (nodes : List Node) → has_id id (taken_nodes actor nodes) ≡ true → has_id id nodes ≡ true
+taken-stands id actor [] h = h
+taken-stands id actor (n ∷ nodes) h = by_test (is_taken_by actor n) (n.id == id) (taken-stands id actor nodes) h refl
+  where
+    by_test : (t same : Bool) → (has_id id (taken_nodes actor nodes) ≡ true → has_id id nodes ≡ true)
+        → has_id id (cond t (n ∷ taken_nodes actor nodes) (taken_nodes actor nodes)) ≡ true → ((n.id == id) ≡ same) → (same || has_id id nodes) ≡ true
+    by_test t true more h e = refl
+    by_test true false more h e = more (subst (λ b. (b || has_id id (taken_nodes actor nodes)) ≡ true) e h)
+    by_test false false more h e = more h
