@@ -113,9 +113,6 @@ module _ (children : List Child) (marks : List Mark) (i : ℕ) (c : Child) (m : 
   pub marks-differ : ¬ ((get_or children i c).mark ≡ get_or marks i m) → ¬ (marks_of children ≡ marks)
   marks-differ fails e = fails (sym (get_or-map (λ (x : Child). x.mark) children i c m lc) ∙ ap (λ xs. get_or xs i m) e)
 
-pub counts-differ : (children : List Child) (marks : List Mark) → ¬ (length children ≡ length marks) → ¬ (marks_of children ≡ marks)
-counts-differ children marks fails e = fails (sym (length-map (λ (x : Child). x.mark) children) ∙ ap {B = ℕ} length e)
-
 pub marks-all : (children : List Child) (marks : List Mark) (i : ℕ) → length children ≤ i → length marks ≤ i → marks_of (take i children) ≡ take i marks → marks_of children ≡ marks
 marks-all children marks i lc lm h = ap marks_of (sym (take_all i children lc)) ∙ h ∙ take_all i marks lm
 
