@@ -5,6 +5,7 @@ pub mod Single
 pub mod Deadlines
 pub mod Settled
 pub mod Firsts
+pub mod Replaying
 pub mod Drives
 pub mod Histories
 pub mod Stepping

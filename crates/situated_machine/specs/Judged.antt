@@ -1,7 +1,8 @@
 -- How the code judges an event: rule by rule, in their order.
-use Rattle.std.specs.Prelude.{◌≡◌, ℕ, zero, suc, List, Option, Some, None}
+use Rattle.std.specs.Prelude.{◌≡◌, ℕ, zero, suc, false, List, Option, Some, None, IsTrue}
 use Rattle.std.specs.List.{AllByRecursion}
 use Rattle.tp_spec.specs.declared.event.Event.{Event}
+use Rattle.tp_spec.specs.declared.event.Event.TheVariants.{Expand, Publish, Limit}
 use Rattle.tp_spec.specs.declared.plan.Limits.{Limits}
 use Rattle.tp_spec.specs.declared.plan.Mark.{Mark}
 use Rattle.tp_spec.specs.declared.problem.Problem.{Problem}
@@ -15,7 +16,7 @@ use Rattle.situated_machine.specs.declared.quiet.Next.TheVariants as next
 use Rattle.situated_machine.specs.declared.replayed.Rule.{Rule}
 use Rattle.situated_machine.specs.declared.replayed.Rule.TheVariants as rules
 use Rattle.situated_machine.specs.Keeping.{ReplayView}
-use Rattle.situated_machine.specs.Rules.{Keeps, place}
+use Rattle.situated_machine.specs.Rules.{Keeps, MayMakeDeed, has_id, place, taken_nodes}
 
 abbrev pub rule_at : ℕ → Rule
 rule_at zero = rules.Outcome
@@ -53,6 +54,24 @@ pub record Follows (old new : ReplayView) (e : Event) : Type 0 where
 abbrev pub IsJudged : ReplayView → ReplayView → Event → Option Rule → Type 0
 IsJudged old new e None = Follows old new e
 IsJudged old new e (Some rule) = BreaksAt old.problem old.limits old.machine e rule
+
+-- The actor may make a deed on this node: no outcome stands, it is the actor's turn, without a deed
+-- so far, and the actor took the node.
+pub record MayWorkOn (m : Machine) (actor id : ℕ) : Type 0 where
+  pub standing : m.over ≡ false
+  pub turn : MayMakeDeed m actor
+  pub taken : IsTrue (has_id id (taken_nodes actor m.nodes))
+
+-- a deed of this actor on this node, which it took before
+abbrev pub IsWorkOn : ℕ → ℕ → Event → Type 0
+IsWorkOn actor id (Expand a i marks) = (a ≡ actor) × (i ≡ id)
+IsWorkOn actor id (Publish a i plan) = (a ≡ actor) × (i ≡ id)
+IsWorkOn actor id (Limit a i made marks) = (a ≡ actor) × (i ≡ id)
+IsWorkOn actor id other = ⊥
+
+-- each such deed breaks this rule first
+abbrev pub BreaksWork : Problem → Limits → Machine → ℕ → ℕ → Rule → Type 0
+BreaksWork p l m actor id rule = (e : Event) → IsWorkOn actor id e → BreaksAt p l m e rule
 
 -- the machine took a step, in the same problem and limits
 pub record Steps (old new : ReplayView) (e : Event) : Type 0 where

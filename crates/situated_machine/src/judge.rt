@@ -1,6 +1,6 @@
-ghost use Rattle.std.specs.Prelude.{◌≡◌, ◌<◌, ◌+◌, ◌^◌, false, nat_lt, IfOk, IsTrue, length};
+ghost use Rattle.std.specs.Prelude.{◌≡◌, ◌<◌, ◌+◌, ◌^◌, false, nat_lt, IfOk, IfNone, IfSome, IsTrue, length};
 ghost use Rattle.machine_run.specs.Children.{marks_of};
-ghost use Rattle.situated_machine.specs.Judged.{IsJudged};
+ghost use Rattle.situated_machine.specs.Judged.{BreaksWork, IsJudged, MayWorkOn};
 ghost use Rattle.situated_machine.specs.Replays.{IsReplay};
 ghost use Rattle.tp_spec.specs.declared.event.Event.{Event as AnEvent};
 ghost use Rattle.tp_spec.specs.WellFormed.{IsWellFormed};
@@ -113,7 +113,11 @@ impl<'p> Replayer<'p> {
 
     /// The first rule that a deed on a node that its actor took breaks, of those of outcomes, turns
     /// and ids.
-    fn judge_deed(&self, actor: u32, id: u32) -> Option<Rule> {
+    fn judge_deed(&self, actor: u32, id: u32) -> Option<Rule>
+        ensures none { IfNone result (MayWorkOn self.now.machine actor id) }
+        ensures some { IfSome result (BreaksWork self.now.problem self.now.limits self.now.machine
+            actor id) }
+    {
         if self.is_over() {
             return Some(Rule::Outcome);
         }
@@ -178,12 +182,7 @@ impl<'p> Replayer<'p> {
         Ok(None)
     }
 
-    fn judge_publish(
-        &mut self,
-        actor: u32,
-        id: u32,
-        plan: &Plan,
-    ) -> Result<Option<Rule>, NoMemory>
+    fn judge_publish(&mut self, actor: u32, id: u32, plan: &Plan) -> Result<Option<Rule>, NoMemory>
         ensures { IfOk result (IsJudged self.old self.new (AnEvent.Publish actor id plan.now)) }
     {
         if let Some(rule) = self.judge_deed(actor, id) {
@@ -267,5 +266,13 @@ fn have_marks(children: &[Child], marks: &[Mark]) -> bool
     ensures yes { IsTrue result → marks_of children.now ≡ marks.now }
     ensures no { result ≡ false → ¬ (marks_of children.now ≡ marks.now) }
 {
-    children.len() == marks.len()
+    if children.len() != marks.len() {
+        return false;
+    }
+    for i in 0..marks.len() {
+        if children[i].mark != marks[i] {
+            return false;
+        }
+    }
+    true
 }
