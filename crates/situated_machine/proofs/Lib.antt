@@ -5,3 +5,4 @@ pub mod Single
 pub mod Firsts
 pub mod Drives
 pub mod Histories
+pub mod Marking

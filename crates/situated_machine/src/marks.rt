@@ -84,7 +84,7 @@ impl<'p> Replayer<'p> {
             (IsPlanOf self.now.problem self.now.limits self.now.machine word.now)) }
         ensures none { IfOk result (λ r. IfNone r (HasNoPlan (sight_of self.now word.now))) }
     {
-        let commits = self.commits.as_slice();
+        let commits = self.commits.acts();
         if !whole || !are_held(self.problem, word, commits) {
             return Ok(None);
         }
@@ -141,7 +141,7 @@ impl<'p> Replayer<'p> {
         if word.push(mark).is_err() {
             return Err(NoMemory);
         }
-        let commits = self.commits.as_slice();
+        let commits = self.commits.acts();
         let found = deadline(
             self.alloc,
             self.problem,
