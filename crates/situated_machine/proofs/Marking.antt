@@ -1,5 +1,5 @@
 -- What may be asked of the word of a node that stands, its plan, and its live marks.
-use Rattle.std.proofs.Common.{◌≡◌, refl, sym, ap, subst, ◌∙◌, ℕ, ◌+◌, ◌<◌, ◌≤◌, ◌^◌, ◌==◌, max, nat_le, Bool, true, false, not, List, [], ◌∷◌, ◌++◌, length, map, take, get_or, All, inl, inr, arith}
+use Rattle.std.proofs.Common.{◌≡◌, refl, sym, ap, subst, ◌∙◌, ℕ, ◌+◌, ◌<◌, ◌≤◌, ◌^◌, ◌==◌, max, nat_le, Bool, true, false, not, List, [], ◌∷◌, ◌++◌, length, map, take, get_or, All, inl, inr, ◌||◌, Option, Some, None, Result, IfOk, IfSome, IfNone, arith}
 use Rattle.std.specs.List.{list_all}
 use Rattle.std.proofs.lemmas.Bool.{and_parts, and_from, false≢true, eq-eqb, leb-true, le-leb, ltb-true}
 use Rattle.std.proofs.lemmas.List.{map-append, take_more}
@@ -25,17 +25,19 @@ use Rattle.run_laws.proofs.Covering.{word_of-in}
 use Rattle.node_state.specs.Growths.{next_marks}
 use Rattle.word_frontier.specs.declared.child.Child.{Child}
 use Rattle.word_frontier.specs.Nodes.{IsCopy, NodeView, RankedNode}
+use Rattle.word_frontier.specs.Nodes as kept_nodes
 use Rattle.word_network.specs.Schedules.{IsEarliest}
 use Rattle.machine_run.specs.Children.{IsChild, marks_of, view_at}
 use Rattle.machine_run.specs.Frontiers.{plain_node}
 use Rattle.open_tree.specs.Views.{JobView}
+use Rattle.open_tree.proofs.Merging.{some-ok, none-ok}
 use Rattle.open_tree.proofs.Offspring.{part-spells, lacking-spells, dead-spells, whole-ended, empty-none}
 use Rattle.search_workers.specs.Sprouting.{AreThose}
 use Rattle.search_workers.proofs.LiveMarks.{kept-live}
 use Rattle.situated_machine.specs.Judged.{AreChildrenOf}
 use Rattle.situated_machine.specs.Keeping.{ReplayParts, ReplayView, IsKept, machine_of, view_of}
 use Rattle.situated_machine.specs.Marked.{AreLiveAmong, HasNoPlan, IsDeadlineAfter, IsInSight, IsLiveAfter, Sight, sight_of}
-use Rattle.situated_machine.specs.Rules.{IsPlanOf}
+use Rattle.situated_machine.specs.Rules.{IsPlanOf, has_id}
 
 -- commitments that end within a horizon start by the greatest one
 early-starts : (horizon : ℕ) (cs : List Timed) → horizon ≤ 2 ^ 40 → list_all (λ c. nat_le (c.start + c.length) horizon) cs ≡ true → list_all (λ c. nat_le c.start (2 ^ 40)) cs ≡ true
@@ -120,3 +122,43 @@ children-among r w marks children follow none among =
       exact = record { in_order = exact.in_order; live = exact.live; all = exact.all };
       each = recursion_from_All (IsChild r.problem r.limits r.machine.commits w) children among.each;
     }
+
+pub not-false : (b : Bool) → not b ≡ false → b ≡ true
+not-false true h = refl
+not-false false h = absurd (false≢true (sym h))
+
+-- the same facts of a replay by its parts
+module _ {t : ReplayParts} (kept : IsKept t) (r : ReplayView) (is : view_of t ≡ r) (w : List Mark) (commits : List Timed) (same-acts : commits ≡ t.commits) where
+  seen : IsInSight (sight_of r w) → IsInSight (sight_of (view_of t) w)
+  seen = subst (λ (v : ReplayView). IsInSight (sight_of v w)) (sym is)
+
+  pub plan-some : {E : Type 0} → IsInSight (sight_of r w) → is_whole r.problem w ≡ true → is_empty (awaited (acts_of t.problem w) commits) ≡ true
+      → (result : Result (Option Plan) E) → IfOk result (λ o. IfSome o (IsEarliest t.problem t.limits t.clock commits w)) → IfOk result (λ o. IfSome o (IsPlanOf r.problem r.limits r.machine w))
+  plan-some known whole held result h =
+      subst (λ (v : ReplayView). IfOk result (λ o. IfSome o (IsPlanOf v.problem v.limits v.machine w))) is
+      (some-ok (IsEarliest t.problem t.limits t.clock commits w) (IsPlanOf t.problem t.limits (machine_of t) w) result
+      (λ plan e. earliest-plan (view_of t) w plan (seen known) (subst (λ (v : ReplayView). is_whole v.problem w ≡ true) (sym is) whole)
+      (subst (λ cs. is_empty (awaited (acts_of t.problem w) cs) ≡ true) same-acts held)
+      (subst (λ cs. IsEarliest t.problem t.limits t.clock cs w plan) same-acts e)) h)
+
+  pub plan-none : {E : Type 0} → IsInSight (sight_of r w)
+      → (result : Result (Option Plan) E) → IfOk result (λ o. IfNone o (¬ (Live t.problem t.limits t.clock commits w))) → IfOk result (λ o. IfNone o (HasNoPlan (sight_of r w)))
+  plan-none known result h =
+      subst (λ (v : ReplayView). IfOk result (λ o. IfNone o (HasNoPlan (sight_of v w)))) is
+      (none-ok (¬ (Live t.problem t.limits t.clock commits w)) (HasNoPlan (sight_of (view_of t) w)) result
+      (λ dead. dead-none (sight_of (view_of t) w) (seen known) (subst (λ cs. ¬ (Live t.problem t.limits t.clock cs w)) same-acts dead)) h)
+
+  pub lacking : IsInSight (sight_of r w) → is_empty (awaited (acts_of t.problem w) commits) ≡ false → HasNoPlan (sight_of r w)
+  lacking known lacks =
+      subst (λ (v : ReplayView). HasNoPlan (sight_of v w)) is
+      (lacking-none (sight_of (view_of t) w) (seen known) (subst (λ cs. is_empty (awaited (acts_of t.problem w) cs) ≡ false) same-acts lacks))
+
+pub word-known : {t : ReplayParts} (kept : IsKept t) (r : ReplayView) → view_of t ≡ r → (id : ℕ) (v : NodeView) → IsCopy t.frontier.nodes id v → (w : List Mark) → w ≡ v.word
+    → (w ≡ word_of id r.machine.nodes) × IsInSight (sight_of r w)
+word-known {t} kept r is id v copy w same =
+    (same ∙ copy-word t kept id v copy ∙ ap (λ (x : ReplayView). word_of id x.machine.nodes) is,
+    subst (λ u. IsInSight (sight_of r u)) (sym same) (subst (λ (x : ReplayView). IsInSight (sight_of x v.word)) is (copy-sight t kept id v copy)))
+
+pub has-plain : (id : ℕ) (ns : List RankedNode) → has_id id (map plain_node ns) ≡ kept_nodes.has_id id ns
+has-plain id [] = refl
+has-plain id (n ∷ ns) = ap (λ b. (n.id == id) || b) (has-plain id ns)
