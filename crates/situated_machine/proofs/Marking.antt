@@ -162,3 +162,17 @@ word-known {t} kept r is id v copy w same =
 pub has-plain : (id : ℕ) (ns : List RankedNode) → has_id id (map plain_node ns) ≡ kept_nodes.has_id id ns
 has-plain id [] = refl
 has-plain id (n ∷ ns) = ap (λ b. (n.id == id) || b) (has-plain id ns)
+
+-- whether a longer word is live, by the parts
+module _ {t : ReplayParts} (kept : IsKept t) (r : ReplayView) (is : view_of t ≡ r) (w : List Mark) (a : Mark) (commits : List Timed) (same-acts : commits ≡ t.commits)
+    (longer : List Mark) (same-word : longer ≡ w ++ a ∷ []) where
+  pub never-after : ¬ (Live t.problem t.limits 0 commits longer) → ¬ (IsLiveAfter (sight_of r w) a)
+  never-after none =
+      subst (λ (v : ReplayView). ¬ (IsLiveAfter (sight_of v w) a)) is
+      (never-live (sight_of (view_of t) w) a (subst (λ u. ¬ (Live t.problem t.limits 0 t.commits u)) same-word (subst (λ cs. ¬ (Live t.problem t.limits 0 cs longer)) same-acts none)))
+
+  pub dead-after : (d : ℕ) → IsInSight (sight_of r w) → IsDeadline t.problem t.limits commits longer d → d < t.clock → ¬ (IsLiveAfter (sight_of r w) a)
+  dead-after d known timely lt =
+      subst (λ (v : ReplayView). ¬ (IsLiveAfter (sight_of v w) a)) is
+      (dead-by (sight_of (view_of t) w) a d (subst (λ (v : ReplayView). IsInSight (sight_of v w)) (sym is) known)
+      (subst (λ u. IsDeadline t.problem t.limits t.commits u d) same-word (subst (λ cs. IsDeadline t.problem t.limits cs longer d) same-acts timely)) lt)
