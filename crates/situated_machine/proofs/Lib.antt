@@ -9,3 +9,4 @@ pub mod Replaying
 pub mod Drives
 pub mod Histories
 pub mod Stepping
+pub mod Marking
