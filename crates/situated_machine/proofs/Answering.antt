@@ -12,6 +12,7 @@ use Rattle.situated_machine.specs.declared.replayed.Replayed.TheVariants.{Run, B
 use Rattle.situated_machine.specs.declared.replayed.Rule.{Rule}
 use Rattle.situated_machine.specs.declared.replayed.Rule.TheVariants as rules
 use Rattle.situated_machine.specs.Rules.{KeepsAll, BreaksFirst, place}
+use Rattle.situated_machine.specs.Judged.{rule_at}
 use Rattle.situated_machine.specs.Replays.{AreKept, IsBrokenAt, IsReplay}
 use Rattle.situated_machine.specs.Laws.{AreFounded}
 use Rattle.situated_machine.proofs.Judging.{legal-keeps, legal-founded, founded-legal}
@@ -36,18 +37,6 @@ module _ (p : Problem) (l : Limits) (fronts : FrontsAreLive p l) where
   founded-runs h k f = record { legal = run-kept first h (tree-first p l fronts) k f }
 
 -- rules are told apart by their places
-
-abbrev pub rule_at : ℕ → Rule
-rule_at zero = rules.Outcome
-rule_at (suc zero) = rules.Turn
-rule_at (suc (suc zero)) = rules.Id
-rule_at (suc (suc (suc zero))) = rules.Least
-rule_at (suc (suc (suc (suc zero)))) = rules.Live
-rule_at (suc (suc (suc (suc (suc zero))))) = rules.Marks
-rule_at (suc (suc (suc (suc (suc (suc zero)))))) = rules.Commit
-rule_at (suc (suc (suc (suc (suc (suc (suc zero))))))) = rules.Plan
-rule_at (suc (suc (suc (suc (suc (suc (suc (suc zero)))))))) = rules.Number
-rule_at (suc (suc (suc (suc (suc (suc (suc (suc (suc n))))))))) = rules.Early
 
 pub placed : (r : Rule) → rule_at (place r) ≡ r
 placed rules.Outcome = refl

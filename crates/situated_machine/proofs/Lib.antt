@@ -2,6 +2,11 @@ pub mod Judging
 pub mod Answering
 pub mod Orderly
 pub mod Single
+pub mod Deadlines
+pub mod Settled
 pub mod Firsts
+pub mod Replaying
 pub mod Drives
 pub mod Histories
+pub mod Stepping
+pub mod Marking

@@ -99,7 +99,7 @@ module _ (p : Problem) (l : Limits) where
     };
   }
 
-  orderly-first : IsOrderly p l first
+  pub orderly-first : IsOrderly p l first
   orderly-first = record {
     committed = record { in_turn = refl; within = refl; ranged = refl; few = omega arith };
     clocked = omega arith;
@@ -112,7 +112,7 @@ module _ (p : Problem) (l : Limits) where
 
   module _ (m : Machine) (t : IsOrderly p l m) where
     -- the same nodes at this clock
-    orderly-same : (n : Machine) → n.now ≤ l.horizon + 1 → n.commits ≡ m.commits → n.nodes ≡ m.nodes → n.made ≡ m.made → IsOrderly p l n
+    pub orderly-same : (n : Machine) → n.now ≤ l.horizon + 1 → n.commits ≡ m.commits → n.nodes ≡ m.nodes → n.made ≡ m.made → IsOrderly p l n
     orderly-same n top commits nodes made = record {
       committed = subst (AreCommitted p l) (sym commits) t.committed;
       clocked = top;
@@ -209,7 +209,7 @@ module _ (p : Problem) (l : Limits) where
         live-child n c = subst (λ v. Live p l 0 [] v) (sym c.word)
             (live-earlier p l [] (w ++ c.mark ∷ []) 0 m.now m.commits (omega arith) (λ d i. omega arith) ((k rules.Marks).1.live c.mark c.there))
 
-    orderly-step : (e : Event) → KeepsAll p l m e → IsOrderly p l (step l m e)
+    pub orderly-step : (e : Event) → KeepsAll p l m e → IsOrderly p l (step l m e)
     orderly-step (Tick actor reading) k = orderly-same (step l m (Tick actor reading)) (omega (arith, t.clocked)) refl refl refl
     orderly-step (Drop id) k = orderly-drop id
     orderly-step (Dispatch act) k = orderly-dispatch act (k rules.Commit)

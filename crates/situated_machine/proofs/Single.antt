@@ -100,13 +100,13 @@ one-marks p l m w xs zs h k = same-rising xs zs (marks-rise xs h.in_order) (mark
 worse-both : (a b i j : ℕ) → (nat_lt a b || (a == b && nat_le i j)) ≡ true → (nat_lt b a || (b == a && nat_le j i)) ≡ true → i ≡ j
 worse-both a b i j h k = grind (arith, nat_tests)
 
-best-id : (p : Problem) (ns : List Node) (a b : Node) → IsBest p ns a → IsBest p ns b → a.id ≡ b.id
+pub best-id : (p : Problem) (ns : List Node) (a b : Node) → IsBest p ns a → IsBest p ns b → a.id ≡ b.id
 best-id p ns a b h k =
     worse-both (rank p a.word) (rank p b.word) a.id b.id
     (each-in (λ n. no_worse p a n ≡ true) ns b (each-true (no_worse p a) ns h.least) k.there)
     (each-in (λ n. no_worse p b n ≡ true) ns a (each-true (no_worse p b) ns k.least) h.there)
 
-best-word : (p : Problem) (ns : List Node) → each_pair (λ a b. not (a.id == b.id)) ns ≡ true → (a b : Node) → IsBest p ns a → IsBest p ns b → a.word ≡ b.word
+pub best-word : (p : Problem) (ns : List Node) → each_pair (λ a b. not (a.id == b.id)) ns ≡ true → (a b : Node) → IsBest p ns a → IsBest p ns b → a.word ≡ b.word
 best-word p ns apart a b h k =
     sym (word_of-in b.id a ns apart h.there (eq-eqb a.id b.id (best-id p ns a b h k))) ∙ word_of-in b.id b ns apart k.there (eq-eqb b.id b.id refl)
 

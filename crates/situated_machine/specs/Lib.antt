@@ -1,4 +1,8 @@
 pub mod Rules
+pub mod Keeping
+pub mod Deadlines
+pub mod Judged
+pub mod Marked
 pub mod Replays
 pub mod Laws
 pub mod Samples
