@@ -245,11 +245,11 @@ timed-decides : (a b : Timed) → Decides (a.action == b.action && (a.start == b
 timed-decides a b = (together, timed-same a b) where
   together : (a.action == b.action && (a.start == b.start && a.length == b.length)) ≡ true → a ≡ b
   together h =
-      let rest = (and_parts _ _ h).1 in
+      let rest = (and_parts (a.action == b.action) (a.start == b.start && a.length == b.length) h).1 in
       λ i. record {
-        action = eqb-true a.action b.action (and_parts _ _ h).0 i;
-        start = eqb-true a.start b.start (and_parts _ _ rest).0 i;
-        length = eqb-true a.length b.length (and_parts _ _ rest).1 i;
+        action = eqb-true a.action b.action (and_parts (a.action == b.action) (a.start == b.start && a.length == b.length) h).0 i;
+        start = eqb-true a.start b.start (and_parts (a.start == b.start) (a.length == b.length) rest).0 i;
+        length = eqb-true a.length b.length (and_parts (a.start == b.start) (a.length == b.length) rest).1 i;
       }
 
 pub acts-decide : (xs ys : List Timed) (r : Bool) → r ≡ pointwise (λ a b. a.action == b.action && (a.start == b.start && a.length == b.length)) xs ys → Decides r (xs ≡ ys)
