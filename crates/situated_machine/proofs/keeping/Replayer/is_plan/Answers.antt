@@ -1,5 +1,5 @@
 use Rattle.std.proofs.Common.{rules, ◌≡◌, ◌∙◌, sym, ap, subst}
-use Rattle.std.proofs.lemmas.Bool.{eq-eqb, eqb-true, false≢true}
+use Rattle.std.proofs.lemmas.Bool.{eqb-true, false≢true}
 use Rattle.tp_spec.specs.declared.plan.Plan.{Plan}
 use Rattle.tp_spec.specs.Machine.{word_of}
 use Rattle.situated_machine.specs.Marked.{HasNoPlan, sight_of}
@@ -27,10 +27,9 @@ returns-in-Some-clause-yes c passes = elim c.if-own-plan.branch [
       let left : w.as_slice-then-own-plan.result.now ≡ c.in-Some.own.acts = search rules in
       let right : w.as_slice-then-own-plan-2.result.now ≡ c.args.plan.now.acts = search rules in
       let acts = (acts-decide w.as_slice-then-own-plan.result.now w.as_slice-then-own-plan-2.result.now w.eq.result w.eq.ensures).0 (sym w.result-is ∙ passes) in
-      let end = eqb-true c.in-Some.own.end c.args.plan.now.end w.if-own-plan.true in
-      subst (IsPlanOf c.args.self.now.problem c.args.self.now.limits c.args.self.now.machine (word_of c.args.id c.args.self.now.machine.nodes)) (one-by-parts c.in-Some.own c.args.plan.now (sym left ∙ acts ∙ right) end)
+      subst (IsPlanOf c.args.self.now.problem c.args.self.now.limits c.args.self.now.machine (word_of c.args.id c.args.self.now.machine.nodes)) (one-by-parts c.in-Some.own c.args.plan.now (sym left ∙ acts ∙ right) w.if-own-plan.true)
       (its-plan c.growth.new.self c.args.self.now c.growth.ensures.same c.args.id c.as_slice-2.result.now (same ∙ c.in_ok-word.ensures.word) c.in-Some.own own)
-  | else-own-plan w ↦ absurd (false≢true (sym w.result-is ∙ passes))
+  | else-own-plan w ↦ absurd (w.if-own-plan.false (eqb-true c.in-Some.own.end c.args.plan.now.end (sym w.result-is ∙ passes)))
 ]
 
 pub returns-in-Some-clause-no : goal.returns-in-Some-clause-no
@@ -43,5 +42,5 @@ returns-in-Some-clause-no c fails =
           let left : w.as_slice-then-own-plan.result.now ≡ c.in-Some.own.acts = search rules in
           let right : w.as_slice-then-own-plan-2.result.now ≡ c.args.plan.now.acts = search rules in
           false≢true (sym fails ∙ w.result-is ∙ (acts-decide w.as_slice-then-own-plan.result.now w.as_slice-then-own-plan-2.result.now w.eq.result w.eq.ensures).1 (left ∙ ap (λ (p : Plan). p.acts) one ∙ sym right))
-      | else-own-plan w ↦ false≢true (sym w.if-own-plan.false ∙ eq-eqb c.in-Some.own.end c.args.plan.now.end (ap (λ (p : Plan). p.end) one))
+      | else-own-plan w ↦ w.if-own-plan.false (ap (λ (p : Plan). p.end) one)
     ])
