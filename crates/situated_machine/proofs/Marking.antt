@@ -1,7 +1,9 @@
 -- What may be asked of the word of a node that stands, its plan, and its live marks.
-use Rattle.std.proofs.Common.{◌≡◌, refl, sym, ap, subst, ◌∙◌, ℕ, ◌+◌, ◌<◌, ◌≤◌, ◌^◌, ◌==◌, max, nat_le, Bool, true, false, not, List, [], ◌∷◌, ◌++◌, length, map, take, get_or, All, inl, inr, ◌||◌, Option, Some, None, Result, IfOk, IfSome, IfNone, arith}
+use Rattle.std.proofs.Common.{is_some, ◌≡◌, refl, sym, ap, subst, ◌∙◌, ℕ, ◌+◌, ◌<◌, ◌≤◌, ◌^◌, ◌==◌, max, nat_le, Bool, true, false, not, List, [], ◌∷◌, ◌++◌, length, map, take, get_or, All, inl, inr, ◌||◌, ◌&&◌, Decides, Option, Some, None, Result, IfOk, IfSome, IfNone, arith}
 use Rattle.std.specs.List.{list_all}
-use Rattle.std.proofs.lemmas.Bool.{and_parts, and_from, false≢true, eq-eqb, leb-true, le-leb, ltb-true}
+use Rattle.std.proofs.lemmas.Bool.{and_parts, and_from, false≢true, eq-eqb, eqb-true, leb-true, le-leb, ltb-true}
+use Rattle.std.proofs.lemmas.Slice.Eq.{slice_eq-Decides}
+use Rattle.std.specs.Cmp.Lexicographic.{pointwise}
 use Rattle.std.proofs.lemmas.List.{map-append, take_more}
 use Rattle.std.proofs.lemmas.List.Elements.{recursion_from_All}
 use Rattle.tp_spec.specs.declared.plan.Limits.{Limits}
@@ -11,21 +13,23 @@ use Rattle.tp_spec.specs.declared.plan.Timed.{Timed}
 use Rattle.tp_spec.specs.declared.problem.Problem.{Problem}
 use Rattle.tp_spec.specs.Courses.{Possible}
 use Rattle.tp_spec.specs.Lists.{IsIn, is_empty}
-use Rattle.tp_spec.specs.Machine.{Machine, AreLiveMarks, word_of}
+use Rattle.tp_spec.specs.Machine.{Machine, AreLiveMarks, SpellsNone, word_of}
 use Rattle.tp_spec.specs.Schedules.{Live, awaited}
 use Rattle.tp_spec.specs.Words.{Sound, acts_of, progress, spell}
+use Rattle.tp_spec.specs.WellFormed.{IsWellFormed}
 use Rattle.tp_laws.specs.Clocks.{IsDeadline}
 use Rattle.tp_laws.specs.Plans.{is_whole, none_run}
 use Rattle.tp_laws.proofs.ClockLaws.{later-earlier}
 use Rattle.tp_laws.proofs.EarlyLists.{each-in, each-true}
 use Rattle.tp_laws.proofs.Members.{map-in}
+use Rattle.tp_laws.proofs.WordOfPlans.{spell-sound}
 use Rattle.tp_laws.proofs.WordLaws.{word-laws}
 use Rattle.run_laws.specs.Histories.{is_below}
 use Rattle.run_laws.proofs.Covering.{word_of-in}
-use Rattle.node_state.specs.Growths.{next_marks}
+use Rattle.node_state.specs.Growths.{IsGrowthOf, next_marks, rank_with}
+use Rattle.node_state.specs.declared.growth.Growth.{Growth}
 use Rattle.word_frontier.specs.declared.child.Child.{Child}
 use Rattle.word_frontier.specs.Nodes.{IsCopy, NodeView, RankedNode}
-use Rattle.word_frontier.specs.Nodes as kept_nodes
 use Rattle.word_network.specs.Schedules.{IsEarliest}
 use Rattle.machine_run.specs.Children.{IsChild, marks_of, view_at}
 use Rattle.machine_run.specs.Frontiers.{plain_node}
@@ -33,11 +37,13 @@ use Rattle.open_tree.specs.Views.{JobView}
 use Rattle.open_tree.proofs.Merging.{some-ok, none-ok}
 use Rattle.open_tree.proofs.Offspring.{part-spells, lacking-spells, dead-spells, whole-ended, empty-none}
 use Rattle.search_workers.specs.Sprouting.{AreThose}
-use Rattle.search_workers.proofs.LiveMarks.{kept-live}
+use Rattle.search_workers.proofs.LiveMarks.{at-in, each-kept, kept-live, next-sound, rank-of, those-kept, those-left}
 use Rattle.situated_machine.specs.Judged.{AreChildrenOf}
 use Rattle.situated_machine.specs.Keeping.{ReplayParts, ReplayView, IsKept, machine_of, view_of}
 use Rattle.situated_machine.specs.Marked.{AreLiveAmong, HasNoPlan, IsDeadlineAfter, IsInSight, IsLiveAfter, Sight, sight_of}
 use Rattle.situated_machine.specs.Rules.{IsPlanOf, has_id}
+use Rattle.situated_machine.proofs.Settled.{timed-same}
+use Rattle.situated_machine.proofs.Single.{one-plan}
 
 -- commitments that end within a horizon start by the greatest one
 early-starts : (horizon : ℕ) (cs : List Timed) → horizon ≤ 2 ^ 40 → list_all (λ c. nat_le (c.start + c.length) horizon) cs ≡ true → list_all (λ c. nat_le c.start (2 ^ 40)) cs ≡ true
@@ -112,11 +118,36 @@ earliest-plan r w plan known whole held e =
       is = e.2;
     }
 
+-- a word as the word of a job
+abbrev job_of : Sight → JobView
+job_of s = record { problem = s.problem; limits = s.limits; id = 0; node = record { word = s.word; rank = 0; deadline = 0 }; clock = s.now; commits = s.commits }
+
+-- one mark more was judged
+module _ (s : Sight) (marks : List Mark) (i : ℕ) (d : Mark) (below : i < length marks) (old new : List Child) (before : AreLiveAmong s (take i marks) old) where
+  pub live-more : (ranks : List ℕ) → ranks ≡ map (rank_with s.problem s.word) marks → (deadline : ℕ) → IsDeadlineAfter s (get_or marks i d) deadline → IsLiveAfter s (get_or marks i d)
+      → new ≡ old ++ record { mark = get_or marks i d; rank = get_or ranks i 0; deadline = deadline } ∷ [] → AreLiveAmong s (take (i + 1) marks) new
+  live-more ranks ranked deadline timely live grown =
+      let child : Child = record { mark = get_or marks i d; rank = get_or ranks i 0; deadline = deadline } in
+      record {
+        those = those-kept s.problem (job_of s) marks i d below old before.those new child refl live grown;
+        each = each-kept (IsChild s.problem s.limits s.commits s.word) old new child before.each
+            (record { ranked = rank-of s.problem s.word marks ranks i d below ranked; timely = timely }) grown;
+      }
+
+  pub dead-more : ¬ (IsLiveAfter s (get_or marks i d)) → new ≡ old → AreLiveAmong s (take (i + 1) marks) new
+  dead-more dead is = record {
+    those = those-left s.problem (job_of s) marks i d below old before.those new dead is;
+    each = subst (All (IsChild s.problem s.limits s.commits s.word)) (sym is) before.each;
+  }
+
+-- a mark that may follow makes a sound word
+pub sound-next : (s : Sight) → IsInSight s → (marks : List Mark) → marks ≡ next_marks s.problem s.word → (i : ℕ) (d : Mark) → i < length marks → Sound s.problem (s.word ++ get_or marks i d ∷ [])
+sound-next s known marks follow i d below = next-sound s.problem s.word known.sound (get_or marks i d) (subst (IsIn (get_or marks i d)) follow (at-in marks i d below))
+
 -- the live ones of the marks that may follow a word that no plan spells are its children
 pub children-among : (r : ReplayView) (w : List Mark) (marks : List Mark) (children : List Child) → marks ≡ next_marks r.problem w → HasNoPlan (sight_of r w) → AreLiveAmong (sight_of r w) marks children → AreChildrenOf r w children
 children-among r w marks children follow none among =
-    let job : JobView = record { problem = r.problem; limits = r.limits; id = 0; node = record { word = w; rank = 0; deadline = 0 }; clock = r.machine.now; commits = r.machine.commits } in
-    let exact = kept-live r.problem job (marks_of children) (subst (λ ms. AreThose (IsLiveAfter (sight_of r w)) ms (marks_of children)) follow among.those) in
+    let exact = kept-live r.problem (job_of (sight_of r w)) (marks_of children) (subst (λ ms. AreThose (IsLiveAfter (sight_of r w)) ms (marks_of children)) follow among.those) in
     record {
       incomplete = none;
       exact = record { in_order = exact.in_order; live = exact.live; all = exact.all };
@@ -159,10 +190,6 @@ word-known {t} kept r is id v copy w same =
     (same ∙ copy-word t kept id v copy ∙ ap (λ (x : ReplayView). word_of id x.machine.nodes) is,
     subst (λ u. IsInSight (sight_of r u)) (sym same) (subst (λ (x : ReplayView). IsInSight (sight_of x v.word)) is (copy-sight t kept id v copy)))
 
-pub has-plain : (id : ℕ) (ns : List RankedNode) → has_id id (map plain_node ns) ≡ kept_nodes.has_id id ns
-has-plain id [] = refl
-has-plain id (n ∷ ns) = ap (λ b. (n.id == id) || b) (has-plain id ns)
-
 -- whether a longer word is live, by the parts
 module _ {t : ReplayParts} (kept : IsKept t) (r : ReplayView) (is : view_of t ≡ r) (w : List Mark) (a : Mark) (commits : List Timed) (same-acts : commits ≡ t.commits)
     (longer : List Mark) (same-word : longer ≡ w ++ a ∷ []) where
@@ -176,3 +203,54 @@ module _ {t : ReplayParts} (kept : IsKept t) (r : ReplayView) (is : view_of t �
       subst (λ (v : ReplayView). ¬ (IsLiveAfter (sight_of v w) a)) is
       (dead-by (sight_of (view_of t) w) a d (subst (λ (v : ReplayView). IsInSight (sight_of v w)) (sym is) known)
       (subst (λ u. IsDeadline t.problem t.limits t.commits u d) same-word (subst (λ cs. IsDeadline t.problem t.limits cs longer d) same-acts timely)) lt)
+
+-- a plan of the word of a node that stands, or none
+module _ (new old : ReplayView) (stays : new ≡ old) (id : ℕ) (w : List Mark) (same-word : w ≡ word_of id old.machine.nodes) where
+  pub its-plan : (plan : Plan) → IsPlanOf new.problem new.limits new.machine w plan → IsPlanOf old.problem old.limits old.machine (word_of id old.machine.nodes) plan
+  its-plan plan own =
+      subst (λ u. IsPlanOf old.problem old.limits old.machine u plan) same-word
+      (subst (λ (r : ReplayView). IsPlanOf r.problem r.limits r.machine w plan) stays own)
+
+  pub some-spells : (found : Option Plan) → is_some found ≡ true → IfSome found (IsPlanOf new.problem new.limits new.machine w) → ¬ (SpellsNone old.problem old.limits old.machine (word_of id old.machine.nodes))
+  some-spells (Some plan) h some none = let own = its-plan plan some in none plan own.possible own.spells
+  some-spells None h some none = absurd (false≢true h)
+
+  no-spelling : HasNoPlan (sight_of new w) → HasNoPlan (sight_of old (word_of id old.machine.nodes))
+  no-spelling none = subst (λ u. HasNoPlan (sight_of old u)) same-word (subst (λ r. HasNoPlan (sight_of r w)) stays none)
+
+  pub no-plan : HasNoPlan (sight_of new w) → (plan : Plan) → ¬ (IsPlanOf old.problem old.limits old.machine (word_of id old.machine.nodes) plan)
+  no-plan none plan own = no-spelling none plan own.possible own.spells
+
+  pub other-plan : IsWellFormed old.problem → (found plan : Plan) → IsPlanOf new.problem new.limits new.machine w found → ¬ (found ≡ plan) → ¬ (IsPlanOf old.problem old.limits old.machine (word_of id old.machine.nodes) plan)
+  other-plan formed found plan own differ given =
+      differ (one-plan old.problem old.limits (spell-sound old.problem old.limits formed) old.machine (word_of id old.machine.nodes) found plan (its-plan found own) given)
+
+  pub its-children : (marks : List Mark) → marks ≡ next_marks old.problem w → (found : Option Plan) → is_some found ≡ false → IfNone found (HasNoPlan (sight_of new w))
+      → (children : List Child) → AreLiveAmong (sight_of new w) marks children → AreChildrenOf old (word_of id old.machine.nodes) children
+  its-children marks follow (Some plan) h none children among = absurd (false≢true (sym h))
+  its-children marks follow None h none children among =
+      children-among old (word_of id old.machine.nodes) marks children (follow ∙ ap (next_marks old.problem) same-word) (no-spelling none)
+      (subst (λ u. AreLiveAmong (sight_of old u) marks children) same-word (subst (λ r. AreLiveAmong (sight_of r w) marks children) stays among))
+
+-- plans with the same acts and the same end are one
+pub one-by-parts : (a b : Plan) → a.acts ≡ b.acts → a.end ≡ b.end → a ≡ b
+one-by-parts a b acts end = λ i. record { acts = acts i; end = end i }
+
+-- whether a word may be a whole plan's is what its growth tells
+pub whole-told : (new old : ReplayView) → new ≡ old → (first w : List Mark) → first ≡ w → (g : Growth) → IsGrowthOf old.problem first g → g.whole ≡ is_whole new.problem w
+whole-told new old stays first w same g growth = growth.whole ∙ ap (is_whole old.problem) same ∙ ap (λ (r : ReplayView). is_whole r.problem w) (sym stays)
+
+-- the tests of two acts and of two lists of acts
+timed-decides : (a b : Timed) → Decides (a.action == b.action && (a.start == b.start && a.length == b.length)) (a ≡ b)
+timed-decides a b = (together, timed-same a b) where
+  together : (a.action == b.action && (a.start == b.start && a.length == b.length)) ≡ true → a ≡ b
+  together h =
+      let rest = (and_parts (a.action == b.action) (a.start == b.start && a.length == b.length) h).1 in
+      λ i. record {
+        action = eqb-true a.action b.action (and_parts (a.action == b.action) (a.start == b.start && a.length == b.length) h).0 i;
+        start = eqb-true a.start b.start (and_parts (a.start == b.start) (a.length == b.length) rest).0 i;
+        length = eqb-true a.length b.length (and_parts (a.start == b.start) (a.length == b.length) rest).1 i;
+      }
+
+pub acts-decide : (xs ys : List Timed) (r : Bool) → r ≡ pointwise (λ a b. a.action == b.action && (a.start == b.start && a.length == b.length)) xs ys → Decides r (xs ≡ ys)
+acts-decide = slice_eq-Decides timed-decides

@@ -1,11 +1,12 @@
 use Rattle.std.proofs.Common.{◌∙◌, sym, ap}
 use Rattle.situated_machine.specs.Keeping.{ReplayView}
 use Rattle.situated_machine.specs.Rules.{has_id}
-use Rattle.situated_machine.proofs.Marking.{has-plain, word-known}
+use Rattle.situated_machine.proofs.Marking.{word-known}
+use Rattle.situated_machine.proofs.Stepping.{plain-has}
 use Rattle.situated_machine.proofs.keeping.Replayer.word.Goals as goal
 
 pub copy_of-requires : goal.copy_of-requires
-copy_of-requires c = sym (has-plain c.args.id c.self.inside.frontier.nodes) ∙ ap (λ (r : ReplayView). has_id c.args.id r.machine.nodes) c.self.view_is ∙ c.requires.there
+copy_of-requires c = sym (plain-has c.args.id c.self.inside.frontier.nodes) ∙ ap (λ (r : ReplayView). has_id c.args.id r.machine.nodes) c.self.view_is ∙ c.requires.there
 
 pub returns-in-Ok-clause-word : goal.returns-in-Ok-clause-word
 returns-in-Ok-clause-word c =
