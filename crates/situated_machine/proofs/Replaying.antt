@@ -7,18 +7,20 @@ use Rattle.tp_spec.specs.declared.event.Event.{Event}
 use Rattle.tp_spec.specs.declared.event.Event.TheVariants.{Tick, Drop, Dispatch, Take, Expand, Publish, Limit, Exhaust, Halt}
 use Rattle.tp_spec.specs.declared.plan.Limits.{Limits}
 use Rattle.tp_spec.specs.declared.plan.Mark.{Mark}
+use Rattle.tp_spec.specs.declared.plan.Plan.{Plan}
 use Rattle.tp_spec.specs.declared.problem.Problem.{Problem}
-use Rattle.tp_spec.specs.Machine.{Machine, Node, end_of, first, step}
+use Rattle.tp_spec.specs.Machine.{Machine, Node, AreLiveMarks, IsSettled, SpellsNone, end_of, first, step, word_of}
 use Rattle.run_laws.proofs.Runs.{end-append}
 use Rattle.word_frontier.specs.declared.child.Child.{Child}
 use Rattle.machine_run.specs.Children.{marks_of}
 use Rattle.situated_machine.specs.declared.replayed.Rule.{Rule}
 use Rattle.situated_machine.specs.declared.replayed.Rule.TheVariants as rules
 use Rattle.situated_machine.specs.Keeping.{ReplayView}
-use Rattle.situated_machine.specs.Rules.{KeepsAll, MayMakeDeed, has_id, is_taken_by, taken_nodes}
+use Rattle.situated_machine.specs.Rules.{IsPlanOf, KeepsAll, MayMakeDeed, has_id, is_taken_by, taken_nodes}
 use Rattle.situated_machine.specs.Replays.{AreKept, IsBrokenAt, IsReplay}
-use Rattle.situated_machine.specs.Judged.{BreaksAt, BreaksWork, Follows, IsWorkOn, KeepsEach, Steps}
+use Rattle.situated_machine.specs.Judged.{BreaksAt, BreaksWork, Follows, IsWorkOn, KeepsEach, MayWorkOn, Steps}
 use Rattle.situated_machine.proofs.Firsts.{breaks, each-all}
+use Rattle.situated_machine.proofs.Single.{one-marks}
 
 pub kept-append : (p : Problem) (l : Limits) (m : Machine) (es fs : List Event) → AreKept p l m es → AreKept p l (end_of l m es) fs → AreKept p l m (es ++ fs)
 kept-append p l m [] fs h k = k
@@ -140,3 +142,19 @@ taken-stands id actor (n ∷ nodes) h = by_test (is_taken_by actor n) (n.id == i
     by_test t true more h e = refl
     by_test true false more h e = more (subst (λ b. (b || has_id id (taken_nodes actor nodes)) ≡ true) e h)
     by_test false false more h e = more h
+
+-- what a deed that may be made breaks or keeps besides
+
+module _ (p : Problem) (l : Limits) (m : Machine) (actor id : ℕ) (may : MayWorkOn m actor id) where
+  pub marks-broken : (xs marks : List Mark) → AreLiveMarks p l m (word_of id m.nodes) xs → ¬ (xs ≡ marks) → BreaksAt p l m (Expand actor id marks) rules.Marks
+  marks-broken xs marks exact fails = ((((((tt, may.standing), may.turn), may.taken), tt), tt), λ k. fails (one-marks p l m (word_of id m.nodes) xs marks exact k.1))
+
+  pub number-broken : (xs : List Mark) (made marks : ℕ) → SpellsNone p l m (word_of id m.nodes) → AreLiveMarks p l m (word_of id m.nodes) xs
+      → (made ≡ m.made → marks ≡ length xs → l.nodes < m.made + length xs → ⊥) → BreaksAt p l m (Limit actor id made marks) rules.Number
+  number-broken xs made marks incomplete exact fails =
+      (((((((((tt, may.standing), may.turn), may.taken), tt), tt), incomplete), tt), tt),
+      λ k. let same : length k.live_marks ≡ length xs = ap length (one-marks p l m (word_of id m.nodes) k.live_marks xs k.exact exact) in
+      fails k.given (k.counted ∙ same) (omega (arith, k.full, k.given, k.counted, same)))
+
+  pub plan-keeps : (plan : Plan) → IsPlanOf p l m (word_of id m.nodes) plan → IsSettled p l m → KeepsEach p l m (Publish actor id plan)
+  plan-keeps plan is settled = ((((((((((tt, may.standing), may.turn), may.taken), tt), tt), tt), tt), is), tt), settled)
