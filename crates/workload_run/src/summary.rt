@@ -85,7 +85,8 @@ fn text_and_status(
     requires few { marks_in history.now < 2 ^ 31 }
     requires some { 0 < length history.now }
     ensures below { IfOk result (λ r. r.1 < 3) }
-    ensures sums { IfOk result (λ r. (front : History) (last : AnEvent) → history.now ≡ front ++ last ∷ []
+    ensures sums { IfOk result (λ r. (front : History) (last : AnEvent)
+        → history.now ≡ front ++ last ∷ []
         → (r.0.items ≡ text_by seed problem.now (marks_in history.now + 1) last)
         × (r.1 ≡ result_status last)) }
 {
