@@ -21,6 +21,14 @@ fn blank_of(alloc: Global, count: u64) -> io::Result<Vec<u8>> {
     Ok(bytes)
 }
 
+/// The file that a word names where it names one: the word, or what is behind its `=`.
+fn named_in(word: &str) -> &str {
+    match word.split_once('=') {
+        Some((_, name)) => name,
+        None => word,
+    }
+}
+
 /// The files that the words of a case name and the disk has, and the blank ones.
 fn contents_of(
     alloc: Global,
@@ -29,8 +37,9 @@ fn contents_of(
 ) -> io::Result<Vec<(String, Vec<u8>)>> {
     let mut contents = Vec::new(alloc);
     for word in &case.words {
-        if let Ok(content) = disk.load(alloc, word.as_str(), MOST) {
-            contents.push((String::from_str(alloc, word.as_str())?, content))?;
+        let name = named_in(word.as_str());
+        if let Ok(content) = disk.load(alloc, name, MOST) {
+            contents.push((String::from_str(alloc, name)?, content))?;
         }
     }
     for (name, count) in &case.blank {
