@@ -1,24 +1,21 @@
 -- What may be asked of the word of a node that stands, its plan, and its live marks.
-use Rattle.std.proofs.Common.{is_some, ◌≡◌, refl, sym, ap, subst, ◌∙◌, ℕ, ◌+◌, ◌<◌, ◌≤◌, ◌^◌, ◌==◌, max, nat_le, Bool, true, false, not, List, [], ◌∷◌, ◌++◌, length, map, take, get_or, All, inl, inr, ◌||◌, ◌&&◌, Decides, Option, Some, None, Result, IfOk, IfSome, IfNone, arith}
+use Rattle.std.proofs.Common.{is_some, ◌≡◌, refl, sym, ap, subst, ◌∙◌, ℕ, ◌+◌, ◌<◌, ◌≤◌, ◌^◌, ◌==◌, max, nat_le, Bool, true, false, List, [], ◌∷◌, ◌++◌, length, map, take, get_or, All, ◌&&◌, Decides, Option, Some, None, Result, IfOk, IfSome, IfNone, arith}
 use Rattle.std.specs.List.{list_all}
 use Rattle.std.proofs.lemmas.Bool.{and_parts, and_from, false≢true, eq-eqb, eqb-true, leb-true, le-leb, ltb-true}
 use Rattle.std.proofs.lemmas.Slice.Eq.{slice_eq-Decides}
 use Rattle.std.specs.Cmp.Lexicographic.{pointwise}
-use Rattle.std.proofs.lemmas.List.{map-append, take_more}
 use Rattle.std.proofs.lemmas.List.Elements.{recursion_from_All}
-use Rattle.tp_spec.specs.declared.plan.Limits.{Limits}
 use Rattle.tp_spec.specs.declared.plan.Mark.{Mark}
 use Rattle.tp_spec.specs.declared.plan.Plan.{Plan}
 use Rattle.tp_spec.specs.declared.plan.Timed.{Timed}
-use Rattle.tp_spec.specs.declared.problem.Problem.{Problem}
 use Rattle.tp_spec.specs.Courses.{Possible}
 use Rattle.tp_spec.specs.Lists.{IsIn, is_empty}
-use Rattle.tp_spec.specs.Machine.{Machine, AreLiveMarks, SpellsNone, word_of}
+use Rattle.tp_spec.specs.Machine.{SpellsNone, word_of}
 use Rattle.tp_spec.specs.Schedules.{Live, awaited}
-use Rattle.tp_spec.specs.Words.{Sound, acts_of, progress, spell}
+use Rattle.tp_spec.specs.Words.{Sound, acts_of, spell}
 use Rattle.tp_spec.specs.WellFormed.{IsWellFormed}
 use Rattle.tp_laws.specs.Clocks.{IsDeadline}
-use Rattle.tp_laws.specs.Plans.{is_whole, none_run}
+use Rattle.tp_laws.specs.Plans.{is_whole}
 use Rattle.tp_laws.proofs.ClockLaws.{later-earlier}
 use Rattle.tp_laws.proofs.EarlyLists.{each-in, each-true}
 use Rattle.tp_laws.proofs.Members.{map-in}
@@ -29,19 +26,19 @@ use Rattle.run_laws.proofs.Covering.{word_of-in}
 use Rattle.node_state.specs.Growths.{IsGrowthOf, next_marks, rank_with}
 use Rattle.node_state.specs.declared.growth.Growth.{Growth}
 use Rattle.word_frontier.specs.declared.child.Child.{Child}
-use Rattle.word_frontier.specs.Nodes.{IsCopy, NodeView, RankedNode}
+use Rattle.word_frontier.specs.Nodes.{IsCopy, NodeView}
 use Rattle.word_network.specs.Schedules.{IsEarliest}
-use Rattle.machine_run.specs.Children.{IsChild, marks_of, view_at}
+use Rattle.machine_run.specs.Children.{IsChild, marks_of}
 use Rattle.machine_run.specs.Frontiers.{plain_node}
 use Rattle.open_tree.specs.Views.{JobView}
 use Rattle.open_tree.proofs.Merging.{some-ok, none-ok}
-use Rattle.open_tree.proofs.Offspring.{part-spells, lacking-spells, dead-spells, whole-ended, empty-none}
+use Rattle.open_tree.proofs.Offspring.{part-spells, lacking-spells, dead-spells}
 use Rattle.search_workers.specs.Sprouting.{AreThose}
 use Rattle.search_workers.proofs.LiveMarks.{at-in, each-kept, kept-live, next-sound, rank-of, those-kept, those-left}
 use Rattle.situated_machine.specs.Judged.{AreChildrenOf}
 use Rattle.situated_machine.specs.Keeping.{ReplayParts, ReplayView, IsKept, machine_of, view_of}
 use Rattle.situated_machine.specs.Marked.{AreLiveAmong, HasNoPlan, IsDeadlineAfter, IsInSight, IsLiveAfter, Sight, sight_of}
-use Rattle.situated_machine.specs.Rules.{IsPlanOf, has_id}
+use Rattle.situated_machine.specs.Rules.{IsPlanOf}
 use Rattle.situated_machine.proofs.Settled.{timed-same}
 use Rattle.situated_machine.proofs.Single.{one-plan}
 
@@ -59,10 +56,10 @@ module _ (t : ReplayParts) (kept : IsKept t) (id : ℕ) (v : NodeView) (copy : I
   same : v.word ≡ copy.node.word
   same = ap (λ n. n.word) copy.is
 
-  pub copy-word : v.word ≡ word_of id (machine_of t).nodes
+  copy-word : v.word ≡ word_of id (machine_of t).nodes
   copy-word = same ∙ sym (word_of-in id (plain_node copy.node) (machine_of t).nodes kept.orderly.told_apart there (eq-eqb copy.node.id id copy.id_is))
 
-  pub copy-sight : IsInSight (sight_of (view_of t) v.word)
+  copy-sight : IsInSight (sight_of (view_of t) v.word)
   copy-sight =
       let short : length copy.node.word ≤ copy.node.id = kept.orderly.short (plain_node copy.node) there in
       let below : copy.node.id < t.frontier.made = ltb-true copy.node.id t.frontier.made (each-in (λ n. is_below t.frontier.made n ≡ true) (machine_of t).nodes (plain_node copy.node) (each-true (is_below t.frontier.made) (machine_of t).nodes kept.orderly.below) there) in
@@ -83,14 +80,11 @@ module _ (t : ReplayParts) (kept : IsKept t) (id : ℕ) (v : NodeView) (copy : I
       })
 
 -- a word that is not live at the start is not live later
-pub never-live : (s : Sight) (a : Mark) → ¬ (Live s.problem s.limits 0 s.commits (s.word ++ a ∷ [])) → ¬ (IsLiveAfter s a)
+never-live : (s : Sight) (a : Mark) → ¬ (Live s.problem s.limits 0 s.commits (s.word ++ a ∷ [])) → ¬ (IsLiveAfter s a)
 never-live s a none live = none (record { sound = live.sound; schedule = live.schedule; is = later-earlier _ _ _ _ 0 _ live.schedule (omega arith) live.is })
 
--- a deadline tells whether it is live now
-pub live-by : (s : Sight) (a : Mark) (d : ℕ) → IsInSight s → IsDeadlineAfter s a d → s.now ≤ d → IsLiveAfter s a
-live-by s a d known timely le = (timely.tells s.now known.clock).1 le
-
-pub dead-by : (s : Sight) (a : Mark) (d : ℕ) → IsInSight s → IsDeadlineAfter s a d → d < s.now → ¬ (IsLiveAfter s a)
+-- a word whose deadline is past is not live
+dead-by : (s : Sight) (a : Mark) (d : ℕ) → IsInSight s → IsDeadlineAfter s a d → d < s.now → ¬ (IsLiveAfter s a)
 dead-by s a d known timely lt live = omega (arith, lt, (timely.tells s.now known.clock).0 live)
 
 -- the plan of a word
@@ -98,14 +92,14 @@ module _ (s : Sight) (known : IsInSight s) where
   pub part-none : is_whole s.problem s.word ≡ false → HasNoPlan s
   part-none part = part-spells s.problem s.limits known.formed s.word part s.now s.commits
 
-  pub lacking-none : is_empty (awaited (acts_of s.problem s.word) s.commits) ≡ false → HasNoPlan s
+  lacking-none : is_empty (awaited (acts_of s.problem s.word) s.commits) ≡ false → HasNoPlan s
   lacking-none lacks = lacking-spells s.problem s.limits known.formed s.word s.now s.commits known.commits.in_turn lacks
 
-  pub dead-none : ¬ (Live s.problem s.limits s.now s.commits s.word) → HasNoPlan s
+  dead-none : ¬ (Live s.problem s.limits s.now s.commits s.word) → HasNoPlan s
   dead-none dead = dead-spells s.problem s.limits known.formed s.word s.now s.commits known.commits.in_turn dead
 
 -- the earliest plan of a complete word
-pub earliest-plan : (r : ReplayView) (w : List Mark) (plan : Plan) → IsInSight (sight_of r w) → is_whole r.problem w ≡ true → is_empty (awaited (acts_of r.problem w) r.machine.commits) ≡ true
+earliest-plan : (r : ReplayView) (w : List Mark) (plan : Plan) → IsInSight (sight_of r w) → is_whole r.problem w ≡ true → is_empty (awaited (acts_of r.problem w) r.machine.commits) ≡ true
     → IsEarliest r.problem r.limits r.machine.now r.machine.commits w plan → IsPlanOf r.problem r.limits r.machine w plan
 earliest-plan r w plan known whole held e =
     let complete = and_from _ _ whole held in
@@ -145,7 +139,7 @@ pub sound-next : (s : Sight) → IsInSight s → (marks : List Mark) → marks �
 sound-next s known marks follow i d below = next-sound s.problem s.word known.sound (get_or marks i d) (subst (IsIn (get_or marks i d)) follow (at-in marks i d below))
 
 -- the live ones of the marks that may follow a word that no plan spells are its children
-pub children-among : (r : ReplayView) (w : List Mark) (marks : List Mark) (children : List Child) → marks ≡ next_marks r.problem w → HasNoPlan (sight_of r w) → AreLiveAmong (sight_of r w) marks children → AreChildrenOf r w children
+children-among : (r : ReplayView) (w : List Mark) (marks : List Mark) (children : List Child) → marks ≡ next_marks r.problem w → HasNoPlan (sight_of r w) → AreLiveAmong (sight_of r w) marks children → AreChildrenOf r w children
 children-among r w marks children follow none among =
     let exact = kept-live r.problem (job_of (sight_of r w)) (marks_of children) (subst (λ ms. AreThose (IsLiveAfter (sight_of r w)) ms (marks_of children)) follow among.those) in
     record {
@@ -153,10 +147,6 @@ children-among r w marks children follow none among =
       exact = record { in_order = exact.in_order; live = exact.live; all = exact.all };
       each = recursion_from_All (IsChild r.problem r.limits r.machine.commits w) children among.each;
     }
-
-pub not-false : (b : Bool) → not b ≡ false → b ≡ true
-not-false true h = refl
-not-false false h = absurd (false≢true (sym h))
 
 -- the same facts of a replay by its parts
 module _ {t : ReplayParts} (kept : IsKept t) (r : ReplayView) (is : view_of t ≡ r) (w : List Mark) (commits : List Timed) (same-acts : commits ≡ t.commits) where
@@ -186,9 +176,10 @@ module _ {t : ReplayParts} (kept : IsKept t) (r : ReplayView) (is : view_of t �
 
 pub word-known : {t : ReplayParts} (kept : IsKept t) (r : ReplayView) → view_of t ≡ r → (id : ℕ) (v : NodeView) → IsCopy t.frontier.nodes id v → (w : List Mark) → w ≡ v.word
     → (w ≡ word_of id r.machine.nodes) × IsInSight (sight_of r w)
-word-known {t} kept r is id v copy w same =
-    (same ∙ copy-word t kept id v copy ∙ ap (λ (x : ReplayView). word_of id x.machine.nodes) is,
-    subst (λ u. IsInSight (sight_of r u)) (sym same) (subst (λ (x : ReplayView). IsInSight (sight_of x v.word)) is (copy-sight t kept id v copy)))
+word-known {t} kept r is id v copy w same = (
+  same ∙ copy-word t kept id v copy ∙ ap (λ (x : ReplayView). word_of id x.machine.nodes) is,
+  subst (λ u. IsInSight (sight_of r u)) (sym same) (subst (λ (x : ReplayView). IsInSight (sight_of x v.word)) is (copy-sight t kept id v copy)),
+)
 
 -- whether a longer word is live, by the parts
 module _ {t : ReplayParts} (kept : IsKept t) (r : ReplayView) (is : view_of t ≡ r) (w : List Mark) (a : Mark) (commits : List Timed) (same-acts : commits ≡ t.commits)

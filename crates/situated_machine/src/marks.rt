@@ -30,8 +30,11 @@ impl<'p> Replayer<'p> {
         if self.plan_of(word.as_slice(), growth.whole)?.is_some() {
             return Ok(None);
         }
-        let children =
-            self.live_among(&mut word, growth.marks.as_slice(), growth.ranks.as_slice())?;
+        let children = self.live_among(
+            &mut word,
+            growth.marks.as_slice(),
+            growth.ranks.as_slice(),
+        )?;
         Ok(Some(children))
     }
 

@@ -31,12 +31,16 @@ loop-index-preserved c =
       | in-Some+in_ok-push-in-Some w ↦
           let deadline : ℕ = w.in-Some.deadline in
           let timely : IsDeadlineAfter (sight_of c.args.self.now c.loop-index.word.items) mark deadline = rw w.in-Some.is at c.in_ok-deadline.ensures.timely in
-          let live : IsLiveAfter (sight_of c.args.self.now c.loop-index.word.items) mark = rw w.in-Some.is at c.in_ok-deadline.ensures.live in
-          (after, live-more s marks i blank c.loop-index-test.true old new c.loop-index.invariant.1 c.args.ranks.now c.requires.ranked deadline
-              (subst (λ u. IsDeadlineAfter (sight_of c.args.self.now u) mark deadline) before timely) (subst (λ u. IsLiveAfter (sight_of c.args.self.now u) mark) before live)
-              (w.children-is ∙ w.in_ok-push-in-Some.ensures.ok))
+          let live : IsLiveAfter (sight_of c.args.self.now c.loop-index.word.items) mark = rw w.in-Some.is at c.in_ok-deadline.ensures.live in (
+            after,
+            live-more s marks i blank c.loop-index-test.true old new c.loop-index.invariant.1 c.args.ranks.now c.requires.ranked deadline
+                (subst (λ u. IsDeadlineAfter (sight_of c.args.self.now u) mark deadline) before timely) (subst (λ u. IsLiveAfter (sight_of c.args.self.now u) mark) before live)
+                (w.children-is ∙ w.in_ok-push-in-Some.ensures.ok),
+          )
       | in-None w ↦
-          let dead : ¬ (IsLiveAfter (sight_of c.args.self.now c.loop-index.word.items) mark) = rw w.in-None.is at c.in_ok-deadline.ensures.none in
-          (after, dead-more s marks i blank c.loop-index-test.true old new c.loop-index.invariant.1
-              (subst (λ u. ¬ (IsLiveAfter (sight_of c.args.self.now u) mark)) before dead) w.children-is)
+          let dead : ¬ (IsLiveAfter (sight_of c.args.self.now c.loop-index.word.items) mark) = rw w.in-None.is at c.in_ok-deadline.ensures.none in (
+            after,
+            dead-more s marks i blank c.loop-index-test.true old new c.loop-index.invariant.1
+                (subst (λ u. ¬ (IsLiveAfter (sight_of c.args.self.now u) mark)) before dead) w.children-is,
+          )
     ]

@@ -1,4 +1,4 @@
-use Rattle.std.proofs.Common.{rules, ◌≡◌, ◌++◌, ◌∷◌, [], ◌<◌, ◌∙◌}
+use Rattle.std.proofs.Common.{rules, ◌≡◌, ◌++◌, ◌∷◌, [], ◌<◌}
 use Rattle.tp_laws.specs.Clocks.{IsDeadline}
 use Rattle.tp_spec.specs.Schedules.{Live}
 use Rattle.situated_machine.proofs.Marking.{never-after, dead-after}

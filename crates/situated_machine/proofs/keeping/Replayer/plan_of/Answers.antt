@@ -1,5 +1,5 @@
 use Rattle.std.proofs.Common.{◌∙◌, sym}
-use Rattle.situated_machine.proofs.Marking.{part-none, lacking, plan-some, plan-none, not-false}
+use Rattle.situated_machine.proofs.Marking.{part-none, lacking, plan-some, plan-none}
 use Rattle.situated_machine.specs.Marked.{sight_of}
 use Rattle.situated_machine.proofs.keeping.Replayer.plan_of.Goals as goal
 use Rattle.situated_machine.proofs.keeping.Replayer.plan_of.Goals.{then-not-whole-via-then-not-whole, then-not-whole-via-else-not-whole+then-not-are_held}
