@@ -139,9 +139,9 @@ taken-stands id actor (n ∷ nodes) h = by_test (is_taken_by actor n) (n.id == i
   where
     by_test : (t same : Bool) → (has_id id (taken_nodes actor nodes) ≡ true → has_id id nodes ≡ true)
         → has_id id (cond t (n ∷ taken_nodes actor nodes) (taken_nodes actor nodes)) ≡ true → ((n.id == id) ≡ same) → (same || has_id id nodes) ≡ true
-    by_test t true more h e = refl
-    by_test true false more h e = more (subst (λ b. (b || has_id id (taken_nodes actor nodes)) ≡ true) e h)
-    by_test false false more h e = more h
+    by_test t true there h e = refl
+    by_test true false there h e = there (subst (λ b. (b || has_id id (taken_nodes actor nodes)) ≡ true) e h)
+    by_test false false there h e = there h
 
 -- what a deed that may be made breaks or keeps besides
 
