@@ -1,5 +1,5 @@
-use Rattle.std.proofs.Common.{◌≡◌, refl, sym, subst, ◌∙◌}
-use Rattle.situated_machine.specs.Judged.{BreaksAt, Follows, IsJudged}
+use Rattle.std.proofs.Common.{sym, subst}
+use Rattle.situated_machine.specs.Judged.{IsJudged}
 use Rattle.situated_machine.proofs.Replaying.{behind-broken, behind-next}
 use Rattle.situated_machine.proofs.judge.replay.Goals as goal
 
