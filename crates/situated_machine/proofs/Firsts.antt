@@ -6,7 +6,7 @@ use Rattle.tp_spec.specs.declared.problem.Problem.{Problem}
 use Rattle.tp_spec.specs.Machine.{Machine}
 use Rattle.situated_machine.specs.declared.replayed.Rule.{Rule}
 use Rattle.situated_machine.specs.declared.replayed.Rule.TheVariants as rules
-use Rattle.situated_machine.specs.Judged.{BreaksAt, Firsts, KeepsEach, rule_at}
+use Rattle.situated_machine.specs.Judged.{Firsts, KeepsEach, rule_at}
 use Rattle.situated_machine.specs.Rules.{BreaksFirst, Keeps, KeepsAll, place}
 use Rattle.situated_machine.proofs.Answering.{placed, by_order}
 

@@ -1,24 +1,21 @@
 -- What a replay keeps as it goes: behind so many events the state to which they lead, and that none of them broke a rule.
-use Rattle.std.proofs.Common.{◌≡◌, refl, sym, ap, subst, ◌∙◌, ℕ, zero, suc, ◌+◌, ◌<◌, ◌≤◌, Bool, true, false, cond, ◌==◌, ◌||◌, List, [], ◌∷◌, ◌++◌, length, get_or, take, drop, arith}
-use Rattle.std.proofs.Math.Seq.{drop-cons, take-length}
-use Rattle.std.proofs.lemmas.Bool.{false≢true}
-use Rattle.std.proofs.lemmas.List.{get_or-map, length-map, length-take-le, map-append, take_all, take_more, take-append-drop}
+use Rattle.std.proofs.Common.{◌≡◌, refl, sym, ap, subst, ◌∙◌, ℕ, suc, ◌+◌, ◌<◌, Bool, true, false, cond, ◌==◌, ◌||◌, List, [], ◌∷◌, ◌++◌, length, get_or, take, drop, arith}
+use Rattle.std.proofs.Math.Seq.{drop-cons}
+use Rattle.std.proofs.lemmas.List.{length-take-le, take_more, take-append-drop}
 use Rattle.tp_spec.specs.declared.event.Event.{Event}
-use Rattle.tp_spec.specs.declared.event.Event.TheVariants.{Tick, Drop, Dispatch, Take, Expand, Publish, Limit, Exhaust, Halt}
+use Rattle.tp_spec.specs.declared.event.Event.TheVariants.{Expand, Publish, Limit}
 use Rattle.tp_spec.specs.declared.plan.Limits.{Limits}
 use Rattle.tp_spec.specs.declared.plan.Mark.{Mark}
 use Rattle.tp_spec.specs.declared.plan.Plan.{Plan}
 use Rattle.tp_spec.specs.declared.problem.Problem.{Problem}
 use Rattle.tp_spec.specs.Machine.{Machine, Node, AreLiveMarks, IsSettled, SpellsNone, end_of, first, step, word_of}
 use Rattle.run_laws.proofs.Runs.{end-append}
-use Rattle.word_frontier.specs.declared.child.Child.{Child}
-use Rattle.machine_run.specs.Children.{marks_of}
 use Rattle.situated_machine.specs.declared.replayed.Rule.{Rule}
 use Rattle.situated_machine.specs.declared.replayed.Rule.TheVariants as rules
 use Rattle.situated_machine.specs.Keeping.{ReplayView}
-use Rattle.situated_machine.specs.Rules.{IsPlanOf, KeepsAll, MayMakeDeed, has_id, is_taken_by, taken_nodes}
-use Rattle.situated_machine.specs.Replays.{AreKept, IsBrokenAt, IsReplay}
-use Rattle.situated_machine.specs.Judged.{BreaksAt, BreaksWork, Follows, IsWorkOn, KeepsEach, MayWorkOn, Steps}
+use Rattle.situated_machine.specs.Rules.{IsPlanOf, KeepsAll, has_id, is_taken_by, taken_nodes}
+use Rattle.situated_machine.specs.Replays.{AreKept, IsBrokenAt}
+use Rattle.situated_machine.specs.Judged.{BreaksAt, Follows, KeepsEach, MayWorkOn, Steps}
 use Rattle.situated_machine.proofs.Firsts.{breaks, each-all}
 use Rattle.situated_machine.proofs.Single.{one-marks}
 
@@ -32,9 +29,6 @@ pub record IsBehind (p : Problem) (l : Limits) (history : List Event) (i : ℕ) 
   pub limits : r.limits ≡ l
   pub machine : r.machine ≡ end_of l first (take i history)
   pub kept : AreKept p l first (take i history)
-
-pub behind-first : (p : Problem) (l : Limits) (history : List Event) (r : ReplayView) → r.problem ≡ p → r.limits ≡ l → r.machine ≡ first → IsBehind p l history 0 r
-behind-first p l history r problem limits machine = record { problem = problem; limits = limits; machine = machine; kept = tt }
 
 module _ (p : Problem) (l : Limits) (history : List Event) (i : ℕ) (e : Event) (lt : i < length history) (is : get_or history i e ≡ e) (r : ReplayView) (b : IsBehind p l history i r) where
   more : take (i + 1) history ≡ take i history ++ e ∷ []
@@ -68,56 +62,6 @@ module _ (p : Problem) (l : Limits) (history : List Event) (i : ℕ) (e : Event)
       here : BreaksAt p l (end_of l first (take i history)) e rule
       here = subst (λ m. BreaksAt p l m e rule) b.machine (subst (λ x. BreaksAt p x r.machine e rule) b.limits (subst (λ q. BreaksAt q r.limits r.machine e rule) b.problem h))
 
-pub behind-all : (p : Problem) (l : Limits) (history : List Event) (i : ℕ) (r : ReplayView) → i ≡ length history → IsBehind p l history i r → AreKept p l first history
-behind-all p l history i r e b = subst (AreKept p l first) (ap (λ n. take n history) e ∙ take-length history) b.kept
-
--- the first rule that a deed on a taken node breaks, whatever the deed
-
-module _ (p : Problem) (l : Limits) (m : Machine) (actor id : ℕ) where
-  pub work-over : ¬ (m.over ≡ false) → BreaksWork p l m actor id rules.Outcome
-  work-over fails e w = (tt, fails)
-
-  pub work-turn : m.over ≡ false → ¬ (MayMakeDeed m actor) → BreaksWork p l m actor id rules.Turn
-  work-turn over fails (Tick a reading) w = absurd w
-  work-turn over fails (Drop i) w = absurd w
-  work-turn over fails (Dispatch act) w = absurd w
-  work-turn over fails (Take a i) w = absurd w
-  work-turn over fails (Expand a i marks) w = ((tt, over), λ k. fails (subst (MayMakeDeed m) w.0 k))
-  work-turn over fails (Publish a i plan) w = ((tt, over), λ k. fails (subst (MayMakeDeed m) w.0 k))
-  work-turn over fails (Limit a i made marks) w = ((tt, over), λ k. fails (subst (MayMakeDeed m) w.0 k))
-  work-turn over fails Exhaust w = absurd w
-  work-turn over fails (Halt cause) w = absurd w
-
-  taken : (a i : ℕ) → (a ≡ actor) × (i ≡ id) → has_id i (taken_nodes a m.nodes) ≡ true → has_id id (taken_nodes actor m.nodes) ≡ true
-  taken a i w k = subst (λ x. has_id x (taken_nodes actor m.nodes) ≡ true) w.1 (subst (λ x. has_id i (taken_nodes x m.nodes) ≡ true) w.0 k)
-
-  pub work-id : m.over ≡ false → MayMakeDeed m actor → has_id id (taken_nodes actor m.nodes) ≡ false → BreaksWork p l m actor id rules.Id
-  work-id over turn fails (Tick a reading) w = absurd w
-  work-id over turn fails (Drop i) w = absurd w
-  work-id over turn fails (Dispatch act) w = absurd w
-  work-id over turn fails (Take a i) w = absurd w
-  work-id over turn fails (Expand a i marks) w = (((tt, over), subst (MayMakeDeed m) (sym w.0) turn), λ k. false≢true (sym fails ∙ taken a i w k))
-  work-id over turn fails (Publish a i plan) w = (((tt, over), subst (MayMakeDeed m) (sym w.0) turn), λ k. false≢true (sym fails ∙ taken a i w k))
-  work-id over turn fails (Limit a i made marks) w = (((tt, over), subst (MayMakeDeed m) (sym w.0) turn), λ k. false≢true (sym fails ∙ taken a i w k))
-  work-id over turn fails Exhaust w = absurd w
-  work-id over turn fails (Halt cause) w = absurd w
-
--- the marks of children against others, one by one
-
-module _ (children : List Child) (marks : List Mark) (i : ℕ) (c : Child) (m : Mark) (lc : i < length children) (lm : i < length marks) where
-  pub marks-more : marks_of (take i children) ≡ take i marks → (get_or children i c).mark ≡ get_or marks i m → marks_of (take (i + 1) children) ≡ take (i + 1) marks
-  marks-more h e =
-      ap marks_of (take_more children i c lc)
-      ∙ map-append (λ (x : Child). x.mark) (take i children) (get_or children i c ∷ [])
-      ∙ (λ t. h t ++ e t ∷ [])
-      ∙ sym (take_more marks i m lm)
-
-  pub marks-differ : ¬ ((get_or children i c).mark ≡ get_or marks i m) → ¬ (marks_of children ≡ marks)
-  marks-differ fails e = fails (sym (get_or-map (λ (x : Child). x.mark) children i c m lc) ∙ ap (λ xs. get_or xs i m) e)
-
-pub marks-all : (children : List Child) (marks : List Mark) (i : ℕ) → length children ≤ i → length marks ≤ i → marks_of (take i children) ≡ take i marks → marks_of children ≡ marks
-marks-all children marks i lc lm h = ap marks_of (sym (take_all i children lc)) ∙ h ∙ take_all i marks lm
-
 -- a step from a view that is the old one
 
 pub steps-follow : (old mid new : ReplayView) (e : Event) → mid ≡ old → KeepsEach old.problem old.limits old.machine e → Steps mid new e → Follows old new e
@@ -126,12 +70,6 @@ steps-follow old mid new e same k s = record { problem = here.problem; limits = 
     here : Steps old new e
     here = subst (λ r. Steps r new e) same s
 
-pub keeps-here : (old mid : ReplayView) (e : Event) → mid ≡ old → KeepsEach old.problem old.limits old.machine e → KeepsAll mid.problem mid.limits mid.machine e
-keeps-here old mid e same k = each-all mid.problem mid.limits mid.machine e (subst (λ (r : ReplayView). KeepsEach r.problem r.limits r.machine e) (sym same) k)
-
-pub not-false : (b c : Bool) → b ≡ c → b ≡ true → ¬ (c ≡ false)
-not-false b c e h k = false≢true (sym k ∙ sym e ∙ h)
-
 -- a node that an actor took stands
 pub taken-stands : (id actor : ℕ) (nodes : List Node) → has_id id (taken_nodes actor nodes) ≡ true → has_id id nodes ≡ true
 taken-stands id actor [] h = h
@@ -139,9 +77,9 @@ taken-stands id actor (n ∷ nodes) h = by_test (is_taken_by actor n) (n.id == i
   where
     by_test : (t same : Bool) → (has_id id (taken_nodes actor nodes) ≡ true → has_id id nodes ≡ true)
         → has_id id (cond t (n ∷ taken_nodes actor nodes) (taken_nodes actor nodes)) ≡ true → ((n.id == id) ≡ same) → (same || has_id id nodes) ≡ true
-    by_test t true more h e = refl
-    by_test true false more h e = more (subst (λ b. (b || has_id id (taken_nodes actor nodes)) ≡ true) e h)
-    by_test false false more h e = more h
+    by_test t true there h e = refl
+    by_test true false there h e = there (subst (λ b. (b || has_id id (taken_nodes actor nodes)) ≡ true) e h)
+    by_test false false there h e = there h
 
 -- what a deed that may be made breaks or keeps besides
 
@@ -151,10 +89,11 @@ module _ (p : Problem) (l : Limits) (m : Machine) (actor id : ℕ) (may : MayWor
 
   pub number-broken : (xs : List Mark) (made marks : ℕ) → SpellsNone p l m (word_of id m.nodes) → AreLiveMarks p l m (word_of id m.nodes) xs
       → (made ≡ m.made → marks ≡ length xs → l.nodes < m.made + length xs → ⊥) → BreaksAt p l m (Limit actor id made marks) rules.Number
-  number-broken xs made marks incomplete exact fails =
-      (((((((((tt, may.standing), may.turn), may.taken), tt), tt), incomplete), tt), tt),
-      λ k. let same : length k.live_marks ≡ length xs = ap length (one-marks p l m (word_of id m.nodes) k.live_marks xs k.exact exact) in
-      fails k.given (k.counted ∙ same) (omega (arith, k.full, k.given, k.counted, same)))
+  number-broken xs made marks incomplete exact fails = (
+    ((((((((tt, may.standing), may.turn), may.taken), tt), tt), incomplete), tt), tt),
+    λ k. let same : length k.live_marks ≡ length xs = ap length (one-marks p l m (word_of id m.nodes) k.live_marks xs k.exact exact) in
+        fails k.given (k.counted ∙ same) (omega (arith, k.full, k.given, k.counted, same)),
+  )
 
   pub plan-keeps : (plan : Plan) → IsPlanOf p l m (word_of id m.nodes) plan → IsSettled p l m → KeepsEach p l m (Publish actor id plan)
   plan-keeps plan is settled = ((((((((((tt, may.standing), may.turn), may.taken), tt), tt), tt), tt), is), tt), settled)

@@ -1,4 +1,4 @@
-use Rattle.std.proofs.Common.{◌≡◌, refl, subst, ◌∙◌}
+use Rattle.std.proofs.Common.{refl, subst, ◌∙◌}
 use Rattle.std.specs.Prelude.{IfNone}
 use Rattle.tp_spec.specs.declared.event.Event.TheVariants.{Publish}
 use Rattle.tp_spec.specs.Machine.{IsSettled, word_of}
