@@ -64,6 +64,7 @@ pub record Replays (p : Problem) (limits : Limits) (bytes : List ℕ) (status : 
 -- a text is the trace of no history, and the line tells its first fault
 pub record RefusesTrace (bytes line : List ℕ) : Type 0 where
   pub fault : LineFault
+  pub none : ¬ (IsTrace bytes)
   pub first : TellsFault IsTrace fault bytes
   pub line_is : trace_line fault ≡ Some line
 

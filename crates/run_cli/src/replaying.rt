@@ -84,6 +84,7 @@ fn trace_line(alloc: Global, fault: LineFault) -> Result<Vec<u8>, NoMemory>
 }
 
 /// What a replay gives of the trace of a file, or the file's fault.
+#[tactic(auto, using(crate::proofs::FewEvents::refused_trace))]
 fn trace_answer(
     alloc: Global,
     problem: &Problem,

@@ -1,4 +1,7 @@
-use Rattle.std.proofs.Common.{◌∙◌, ap, refl, map, Ok, string_bytes}
+use Rattle.run_cli.specs.declared.words.WordFault.{WordFault}
+use Rattle.run_cli.specs.declared.words.Order.{Order}
+use Rattle.run_cli.specs.Statuses.{EndsLocal}
+use Rattle.std.proofs.Common.{◌∙◌, ap, refl, map, Ok, string_bytes, subst, sym, Result}
 use Rattle.run_cli.proofs.Stopping.{fault-local}
 use Rattle.run_cli.proofs.Traced.{same-keeps}
 use Rattle.run_cli.specs.Orders.{order_of, trace_of}
@@ -43,3 +46,10 @@ returns-clause-ends g c =
     let after : Outside = record { files = g.F.Files.view c.args.files.now; sink = g.O.Sink.view c.refuse_words.new.out } in
     fault-local c.in-Err.fault (order_of (map string_bytes c.args.words.now)) c.in-Err.ensures before after refl c.refuse_words.result.status c.refuse_words.result.history.items
     c.refuse_words.ensures.prints c.refuse_words.ensures.memory c.refuse_words.ensures.history
+
+pub returns-in-Ok-Solve-clause-ends : goal.returns-in-Ok-Solve-clause-ends
+returns-in-Ok-Solve-clause-ends g c =
+    let before : Outside = record { files = g.F.Files.view c.args.files.now; sink = g.O.Sink.view c.args.out.now } in
+    let after : Outside = record { files = g.F.Files.view c.leave_file.new.files; sink = g.O.Sink.view c.leave_file.new.out } in
+    subst (λ (wanted : Result Order WordFault). EndsLocal wanted before after c.leave_file.result.status c.leave_file.result.history.items)
+    (sym (c.in-Ok-Solve.ensures ∙ ap Ok c.in-Ok-Solve.field-0-is)) c.leave_file.ensures.ends
