@@ -1,5 +1,5 @@
 -- Where in a text a byte stands, and what is shown below its line.
-use Rattle.std.specs.Prelude.{◌≡◌, ℕ, suc, ◌+◌, ◌-◌, Bool, ◌&&◌, ◌==◌, nat_le, min, List, [], ◌∷◌, ◌++◌, length, take, drop, if◌then◌else◌}
+use Rattle.std.specs.Prelude.{◌≡◌, ℕ, suc, ◌+◌, ◌-◌, Bool, ◌&&◌, ◌==◌, nat_le, min, List, [], ◌∷◌, length, take, drop, if◌then◌else◌}
 use Rattle.line_text.specs.Lines.{line_len}
 use Rattle.fault_places.specs.declared.places.LinePlace.{LinePlace}
 

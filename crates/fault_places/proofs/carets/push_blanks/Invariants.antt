@@ -1,4 +1,4 @@
-use Rattle.std.proofs.Common.{◌≡◌, ◌≤◌, ◌+◌, ◌++◌, length, drop}
+use Rattle.std.proofs.Common.{◌≡◌, ◌++◌, drop}
 use Rattle.fault_places.specs.Places.{blanks}
 use Rattle.fault_places.proofs.carets.push_blanks.Given as goal
 

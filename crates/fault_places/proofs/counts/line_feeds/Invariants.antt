@@ -1,4 +1,4 @@
-use Rattle.std.proofs.Common.{◌≡◌, ◌≤◌, ◌+◌, ◌++◌, length, drop}
+use Rattle.std.proofs.Common.{◌≡◌, ◌≤◌, ◌+◌, drop}
 use Rattle.fault_places.specs.Places.{line_feeds}
 use Rattle.fault_places.proofs.counts.line_feeds.Given as goal
 

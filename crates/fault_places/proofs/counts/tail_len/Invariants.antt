@@ -1,4 +1,4 @@
-use Rattle.std.proofs.Common.{◌≡◌, ◌≤◌, ◌+◌, ◌++◌, length, drop}
+use Rattle.std.proofs.Common.{◌≡◌, ◌≤◌, drop}
 use Rattle.fault_places.specs.Places.{tail_len}
 use Rattle.fault_places.proofs.counts.tail_len.Given as goal
 
