@@ -56,7 +56,8 @@ pub(crate) fn without_return(line: &[u8]) -> &[u8] {
     }
 }
 
-/// Puts a line, and below it a caret at an offset in it; of a long one the part around the offset.
+/// Puts a line, and below it a caret at an offset in it; of a long one the part around the offset,
+/// and nothing of an empty one.
 pub(crate) fn push_line_and_caret(
     text: &mut Vec<u8>,
     alloc: Global,
@@ -64,6 +65,9 @@ pub(crate) fn push_line_and_caret(
     offset: usize,
 ) -> Result<(), NoMemory> {
     let line = without_return(line);
+    if line.is_empty() {
+        return Ok(());
+    }
     let offset = offset.min(line.len());
     let (before, behind) = line.split_at(offset);
     let skipped = if before.len() > SIDE {
