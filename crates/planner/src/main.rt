@@ -1,14 +1,17 @@
-//! The program: the commands over the files, the standard output and the clock of the system.
+//! The program: the commands over the files, the standard output and the clock of the system, and
+//! an explanation on the standard error where words or a file are refused.
 #![tactic(auto)]
 
 ghost use Rattle.std.specs.Prelude.{◌<◌, ◌^◌, length, IfSome};
 
+use explanations::{KeepingSink, explain};
 use run_cli::run;
 use std::alloc::Global;
 use std::env::FillError;
 use std::process::ExitCode;
 use std::rt::Env;
-use tp_world::{DiskFiles, ElapsedClock, PauseGate, StdSink};
+use std::str::from_utf8;
+use tp_world::{DiskFiles, ElapsedClock, Files, PauseGate, StdSink};
 
 /// More words than a command line has.
 const MOST_WORDS: usize = 1 << 30;
@@ -55,15 +58,37 @@ fn words(rt: &impl Env, alloc: Global) -> Option<Vec<String>>
     None
 }
 
+/// Writes the explanation of a printed refusal to the standard error. Where memory is refused, or
+/// the standard error fails, nothing or a part of it stands there.
+fn print_explanation(
+    error: &impl Print,
+    alloc: Global,
+    words: &[String],
+    files: &mut impl Files,
+    line: &[u8],
+)
+    requires { length words.now < 2 ^ 31 }
+{
+    let Ok(line) = from_utf8(line) else {
+        return;
+    };
+    if let Ok(text) = explain(alloc, words, files, line) {
+        let _ = error.write_all(&text);
+    }
+}
+
 fn main(rt: HostRuntime) -> ExitCode {
     let alloc = rt.alloc();
     let Some(words) = words(&rt, alloc) else {
         return ExitCode::from(7);
     };
     let mut files = DiskFiles::new(rt);
-    let mut out = StdSink::new(rt);
+    let mut out = KeepingSink::new(alloc, StdSink::new(rt));
     let clock = ElapsedClock::new(rt);
     let gate = PauseGate::new(rt);
     let ending = run(alloc, &words, &mut files, &mut out, clock, &gate);
+    if 3 <= ending.status && ending.status <= 5 {
+        print_explanation(&rt.stderr(), alloc, &words, &mut files, out.last());
+    }
     ExitCode::from(ending.status)
 }
