@@ -12,8 +12,23 @@ use std::alloc::Global;
 use tp_spec::NoMemory;
 use tp_world::{Files, LoadFault};
 
-/// The most bytes of a file.
-const MOST_BYTES: u64 = 1_048_576;
+/// The most bytes of a file in a role.
+fn most_bytes(role: &str) -> u64 {
+    if role == "trace" {
+        67_108_864
+    } else {
+        1_048_576
+    }
+}
+
+/// What is wrong with a file that has more.
+fn long_words(role: &str) -> &'static str {
+    if role == "trace" {
+        " has more than 67108864 bytes"
+    } else {
+        " has more than 1048576 bytes"
+    }
+}
 
 /// An explanation of a file as a whole: its name, its role and what is wrong with it.
 fn explain_whole(alloc: Global, file: &str, role: &str, wrong: &str) -> Result<Vec<u8>, NoMemory> {
@@ -67,12 +82,12 @@ fn explain_file<F: Files>(
         return explain_whole(alloc, file, refusal.role, " can't be read");
     }
     if refusal.fault == "FileTooLong" {
-        return explain_whole(alloc, file, refusal.role, " has more than 1048576 bytes");
+        return explain_whole(alloc, file, refusal.role, long_words(refusal.role));
     }
     if refusal.fault.starts_with("TooMany") {
         return explain_count(alloc, file, refusal);
     }
-    match files.load(alloc, file, MOST_BYTES) {
+    match files.load(alloc, file, most_bytes(refusal.role)) {
         Ok(bytes) => explain_place(alloc, file, &bytes, refusal, scale),
         Err(LoadFault::NoMemory) => Err(NoMemory),
         Err(_) => explain_whole(

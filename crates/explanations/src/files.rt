@@ -57,6 +57,14 @@ pub(crate) fn file_in<'a>(order: &'a Order, role: &str) -> Option<&'a str> {
                 None
             }
         }
+        Order::Replay { source, trace, .. } => {
+            if role == "trace" {
+                Some(trace.as_str())
+            } else {
+                source_file(source, role)
+            }
+        }
+        Order::Summary { .. } => None,
         Order::Help => None,
     }
 }
@@ -76,6 +84,8 @@ pub(crate) fn scale_in(order: &Order) -> u32 {
         Order::Simulate { source, .. } => source_scale(source),
         Order::Validate { source, .. } => source_scale(source),
         Order::Ground { scale, .. } => *scale,
+        Order::Replay { source, .. } => source_scale(source),
+        Order::Summary { .. } => 1,
         Order::Help => 1,
     }
 }

@@ -78,7 +78,7 @@ pub(crate) fn push_pddl_sentence(
     Ok(())
 }
 
-/// What is wrong with a line of a ground problem, a plan or a script.
+/// What is wrong with a line of a ground problem, a plan, a script or a trace.
 pub(crate) fn line_sentence(role: &str, fault: &str) -> &'static str {
     match (role, fault) {
         ("ground", _) => "in no ground problem this line follows on the lines before it",
@@ -88,6 +88,7 @@ pub(crate) fn line_sentence(role: &str, fault: &str) -> &'static str {
         ("plan", "UnknownAction") => "the problem has no action of this name",
         ("plan", "NotWhole") => "a time is no whole number of ticks at the problem's scale",
         ("plan", "TooLarge") => "a time, or a start with its length, is above 2^63 - 1 ticks",
+        ("trace", _) => "in no trace this line follows on the lines before it",
         ("script", "Holding") => "this actor takes a node while it holds one: it must merge first",
         ("script", "Idle") => "this actor merges without a node: it must take one first",
         ("script", _) => "this is no line `READING VERB ACTOR`, as `0 take 1`",
@@ -114,6 +115,7 @@ pub(crate) fn role_words(role: &str) -> &'static str {
         "problem" => "PDDL problem",
         "ground" => "ground problem",
         "script" => "script",
+        "trace" => "trace",
         "plan" => "plan file",
         _ => "file",
     }

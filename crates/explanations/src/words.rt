@@ -36,6 +36,7 @@ fn range_words(option: &str) -> &'static str {
         "--actions" => "--actions takes a number from 1 to 64",
         "--horizon" => "--horizon takes a number from 1 to 1099511627776",
         "--nodes" => "--nodes takes a number from 1 to 200000",
+        "--seed" => "--seed takes a number from 0 to 9999999999999",
         "--scale" => "--scale takes 1, 10, 100 or 1000",
         _ => "the option takes another number",
     }
@@ -53,6 +54,17 @@ fn word_words(fault: &str) -> &'static str {
     }
 }
 
+/// Which option a command lacks that it needs.
+fn missing_words(command: &str) -> &'static str {
+    match command {
+        "validate" => "validate wants a plan file: --plan FILE",
+        "simulate" => "simulate wants a script: --script FILE",
+        "replay" => "replay wants a trace: --trace FILE",
+        "summary" => "summary wants a seed: --seed N",
+        _ => "an option that the command needs is missing",
+    }
+}
+
 /// What is wrong with all words together; none where it is a single word.
 fn whole_words(command: &str, fault: &str) -> Option<&'static str> {
     match fault {
@@ -61,11 +73,7 @@ fn whole_words(command: &str, fault: &str) -> Option<&'static str> {
             "the command takes another number of files, which stands behind its name",
         ),
         "ScaleOfGround" => Some("a ground problem has a scale of its own: leave --scale out"),
-        "Missing" => Some(if command == "validate" {
-            "validate wants a plan file: --plan FILE"
-        } else {
-            "simulate wants a script: --script FILE"
-        }),
+        "Missing" => Some(missing_words(command)),
         _ => None,
     }
 }
