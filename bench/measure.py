@@ -48,7 +48,7 @@ def machine():
 
 def run(words):
     """Seconds of the processor, what was printed, and the status of one run."""
-    child = subprocess.Popen(words, stdout=subprocess.PIPE)
+    child = subprocess.Popen(words, stdout=subprocess.PIPE, stderr=subprocess.DEVNULL)
     with child.stdout as out:
         printed = out.read().decode()
     _, status, usage = os.wait4(child.pid, 0)
